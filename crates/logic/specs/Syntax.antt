@@ -40,10 +40,12 @@ pub data Atom : Type 0 where
   link : Link → Term → Term → Atom
   obj : Term → Atom
   method : Arrow → Term → Term → Terms → Result → Atom
+  deriving Discrete as Atom-discrete
 
 -- "LIT is `(+ ATOM)` or `(- ATOM)`."
 pub data Literal : Type 0 where
   lit : Sign → Atom → Literal
+  deriving Discrete as Literal-discrete
 
 -- "CLAUSE is `(or LIT ...)`, perhaps `(or)`."
 abbrev pub Clause : Type 0

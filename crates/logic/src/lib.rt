@@ -37,3 +37,13 @@ pub enum Rule {
     Sca,
     Eli,
 }
+
+// What checks 7 to 11 say of a step.
+pub enum Judged {
+    Passed,
+    NoParent,
+    WrongNumber,
+    Misshapen,
+    Disagrees,
+    WrongClaim,
+}

@@ -1,0 +1,77 @@
+-- What holds of each variable and each applied symbol of a term, an atom, a clause; ground terms; the highest variable.
+use Prim.Native.Nat.{ℕ, zero, suc, max}
+use mathlib.Core.Bool.{Bool, true, false, _&&_, not, _||_}
+use mathlib.Core.List.{List, [], _∷_}
+use lib.Dec.{eqb}
+use Rattle.logic.specs.Syntax.{Term, var, app, Terms, nil, cons, Result, value, none, Atom, link, obj, method, Literal, lit, Clause, mayBeNone}
+use Rattle.logic.specs.Terms.{count, termsOf}
+
+-- Every variable N meets `p N`, and every applied symbol N with n terms meets `s N n`.
+unfoldable mutual
+  pub eachTerm : (ℕ → Bool) → (ℕ → ℕ → Bool) → Term → Bool
+  eachTerm p s (var n) = p n
+  eachTerm p s (app f ts) = s f (count ts) && eachTerms p s ts
+
+  pub eachTerms : (ℕ → Bool) → (ℕ → ℕ → Bool) → Terms → Bool
+  eachTerms p s nil = true
+  eachTerms p s (cons t ts) = eachTerm p s t && eachTerms p s ts
+
+unfoldable pub eachAtom : (ℕ → Bool) → (ℕ → ℕ → Bool) → Atom → Bool
+eachAtom p s x = eachTerms p s (termsOf x)
+
+unfoldable pub eachClause : (ℕ → Bool) → (ℕ → ℕ → Bool) → Clause → Bool
+eachClause p s [] = true
+eachClause p s (lit g x ∷ c) = eachAtom p s x && eachClause p s c
+
+-- "the next symbol of the symbol table, counted from 0, takes K terms": symbol f is in the table and takes n terms.
+unfoldable pub declares : List ℕ → ℕ → ℕ → Bool
+declares [] f n = false
+declares (k ∷ table) zero n = eqb k n
+declares (k ∷ table) (suc f) n = declares table f n
+
+abbrev pub any : ℕ → Bool
+any n = true
+
+abbrev pub never : ℕ → Bool
+never n = false
+
+-- Terms over a symbol table, and ground ("variable-free") terms over it.
+unfoldable pub overTerm : List ℕ → Term → Bool
+overTerm table t = eachTerm any (declares table) t
+
+unfoldable pub groundTerm : List ℕ → Term → Bool
+groundTerm table t = eachTerm never (declares table) t
+
+-- "for mv, mi, st, mt it may be the word `none`": no other atom has it.
+unfoldable pub allowedResult : Bool → Result → Bool
+allowedResult b (value t) = true
+allowedResult b none = b
+
+unfoldable pub allowed : Atom → Bool
+allowed (link l t u) = true
+allowed (obj t) = true
+allowed (method a o m ts r) = allowedResult (mayBeNone a) r
+
+unfoldable pub allowedClause : Clause → Bool
+allowedClause [] = true
+allowedClause (lit g x ∷ c) = allowed x && allowedClause c
+
+unfoldable pub groundAtom : List ℕ → Atom → Bool
+groundAtom table x = allowed x && eachAtom never (declares table) x
+
+unfoldable pub overClause : List ℕ → Clause → Bool
+overClause table c = allowedClause c && eachClause any (declares table) c
+
+-- "its highest variable plus 1 (0 without variables)"
+unfoldable mutual
+  pub termWidth : Term → ℕ
+  termWidth (var n) = suc n
+  termWidth (app f ts) = termsWidth ts
+
+  pub termsWidth : Terms → ℕ
+  termsWidth nil = zero
+  termsWidth (cons t ts) = max (termWidth t) (termsWidth ts)
+
+unfoldable pub width : Clause → ℕ
+width [] = zero
+width (lit g x ∷ c) = max (termsWidth (termsOf x)) (width c)

@@ -1,0 +1,37 @@
+-- Filling: a term stands in for each variable.
+use Prim.Native.Nat.{ℕ}
+use mathlib.Core.List.{List, map}
+use Rattle.logic.specs.Syntax.{Term, var, app, Terms, nil, cons, Result, value, none, Atom, link, obj, method, Literal, lit, Clause}
+use Rattle.logic.specs.Terms.{entryOr}
+
+-- A substitution gives the term for each variable.
+abbrev pub Substitution : Type 0
+Substitution = ℕ → Term
+
+-- "variable N of A becomes term N of the first list". Past the list's end, which check 8 rules out, it stays.
+unfoldable pub entries : Terms → Substitution
+entries ts n = entryOr (var n) ts n
+
+unfoldable mutual
+  pub fill : Substitution → Term → Term
+  fill σ (var n) = σ n
+  fill σ (app f ts) = app f (fills σ ts)
+
+  pub fills : Substitution → Terms → Terms
+  fills σ nil = nil
+  fills σ (cons t ts) = cons (fill σ t) (fills σ ts)
+
+unfoldable pub fillResult : Substitution → Result → Result
+fillResult σ (value t) = value (fill σ t)
+fillResult σ none = none
+
+unfoldable pub fillAtom : Substitution → Atom → Atom
+fillAtom σ (link l t u) = link l (fill σ t) (fill σ u)
+fillAtom σ (obj t) = obj (fill σ t)
+fillAtom σ (method a o m ts r) = method a (fill σ o) (fill σ m) (fills σ ts) (fillResult σ r)
+
+unfoldable pub fillLiteral : Substitution → Literal → Literal
+fillLiteral σ (lit g x) = lit g (fillAtom σ x)
+
+unfoldable pub fillClause : Substitution → Clause → Clause
+fillClause σ c = map (fillLiteral σ) c

@@ -1,0 +1,235 @@
+-- Checks 7 to 11 of document 01, "The verdict": each as a predicate, the rule table as a function, and their answer.
+use Prim.Native.Nat.{ℕ, zero, suc}
+use mathlib.Core.Bool.{Bool, true, false, cond, not, _&&_, _||_}
+use mathlib.Core.List.{List, [], _∷_, _++_}
+use mathlib.Core.Logic.{inl, inr, ⊎-elim, ite}
+use mathlib.Core.Path.{_≡_}
+use lib.ListN.{length, getD}
+use lib.Dec.{T, eqb, ltb}
+use Rattle.logic.specs.declared.Sign.{Sign}
+use Rattle.logic.specs.declared.Sign.the-variants.{Positive, Negative}
+use Rattle.logic.specs.declared.Link.{Link}
+use Rattle.logic.specs.declared.Link.the-variants.{Eq, Mem, Sub}
+use Rattle.logic.specs.declared.Arrow.{Arrow}
+use Rattle.logic.specs.declared.Rule.{Rule}
+use Rattle.logic.specs.declared.Rule.the-variants.{Refl, Res, Fac, Par, Acy, Tra, Inc, Inh, Inp, Out, Sca, Eli}
+use Rattle.logic.specs.declared.Judged.{Judged}
+use Rattle.logic.specs.declared.Judged.the-variants.{Passed, NoParent, WrongNumber, Misshapen, Disagrees, WrongClaim}
+use Rattle.logic.specs.Syntax.{Term, Terms, nil, cons, Result, value, none, Atom, link, obj, method, Literal, lit, Clause, Step}
+use Rattle.logic.specs.Equality.{link?, terms?, atom?, clause?}
+use Rattle.logic.specs.Terms.{count}
+use Rattle.logic.specs.Each.{width}
+use Rattle.logic.specs.Fill.{entries, fillClause}
+use Rattle.logic.specs.Occurrence.{Search, past, found, findLiteral}
+use Rattle.logic.specs.Rules.{Uses, uses, bare, Covers, Agreement, always, equal, covering, alike, Holds, signature, scalar, plus, one, Parent, filled, Infers}
+
+-- Clause n of the text, where the rule uses it as a parent; an unused parent has no literal.
+unfoldable pub parentClause : List Clause → Bool → ℕ → Clause
+parentClause cs used n = cond used (getD cs n []) []
+
+-- The parents of a step, each with its list.
+unfoldable pub parentA : List Clause → Step → Parent
+parentA cs s = record { clause = parentClause cs (uses (s .rule) .a) (s .a); image = entries (s .first) }
+
+unfoldable pub parentB : List Clause → Step → Parent
+parentB cs s = record { clause = parentClause cs (uses (s .rule) .b) (s .b); image = entries (s .second) }
+
+-- "7. A used parent number isn't below the step's own." The step's own number is the number of clauses before it.
+unfoldable pub below : ℕ → Bool → ℕ → Bool
+below own used n = not used || ltb n own
+
+unfoldable pub parentsBelow : List Clause → Step → Bool
+parentsBelow cs s = below (length cs) (uses (s .rule) .a) (s .a) && below (length cs) (uses (s .rule) .b) (s .b)
+
+-- "8. An unused number isn't 0, or a list has the wrong length."
+unfoldable pub zeroIfUnused : Bool → ℕ → Bool
+zeroIfUnused used n = used || eqb n 0
+
+unfoldable pub unusedZero : Step → Bool
+unusedZero s =
+    zeroIfUnused (uses (s .rule) .a) (s .a)
+    && (zeroIfUnused (uses (s .rule) .i) (s .i)
+    && (zeroIfUnused (uses (s .rule) .b) (s .b)
+    && (zeroIfUnused (uses (s .rule) .j) (s .j)
+    && zeroIfUnused (uses (s .rule) .k) (s .k))))
+
+-- "A used parent's list has exactly its highest variable plus 1 terms (0 without variables); an unused one's has none, save for refl":
+-- "refl | no parent; first list one term T", and refl alone uses no A.
+unfoldable pub firstLength : Rule → Clause → ℕ
+firstLength rule c = cond (uses rule .a) (width c) 1
+
+unfoldable pub listsFit : List Clause → Step → Bool
+listsFit cs s = eqb (count (s .first)) (firstLength (s .rule) (parentA cs s .clause)) && eqb (count (s .second)) (width (parentB cs s .clause))
+
+unfoldable pub numbersRight : List Clause → Step → Bool
+numbersRight cs s = unusedZero s && listsFit cs s
+
+-- The rule table as a function: a literal, number or result is not as the shape says, or the row's agreement and clause.
+pub data Conclusion : Type 0 where
+  misshapen : Conclusion
+  concludes : Agreement → Clause → Conclusion
+
+-- One small view for each thing that a shape names.
+unfoldable pub onAt : ℕ → Clause → (Literal → Clause → Conclusion) → Conclusion
+onAt i [] f = misshapen
+onAt zero (l ∷ c) f = f l c
+onAt (suc i) (m ∷ c) f = onAt i c (λ l r. f l (m ∷ r))
+
+unfoldable pub onPlus : Literal → (Atom → Conclusion) → Conclusion
+onPlus (lit Positive x) f = f x
+onPlus (lit Negative x) f = misshapen
+
+unfoldable pub onMinus : Literal → (Atom → Conclusion) → Conclusion
+onMinus (lit Positive x) f = misshapen
+onMinus (lit Negative x) f = f x
+
+unfoldable pub onLink : Link → Atom → (Term → Term → Conclusion) → Conclusion
+onLink k (link l t u) f = ite (link? k l) (f t u) misshapen
+onLink k (obj t) f = misshapen
+onLink k (method a o m ts r) f = misshapen
+
+unfoldable pub onObj : Atom → (Term → Conclusion) → Conclusion
+onObj (link l t u) f = misshapen
+onObj (obj t) f = f t
+onObj (method a o m ts r) f = misshapen
+
+unfoldable pub onResult : Result → (Term → Conclusion) → Conclusion
+onResult (value t) f = f t
+onResult none f = misshapen
+
+-- An arrow atom with a term result whose arrow is one of those asked for.
+unfoldable pub onMethod : (Arrow → Bool) → Atom → (Arrow → Term → Term → Terms → Term → Conclusion) → Conclusion
+onMethod p (link l t u) f = misshapen
+onMethod p (obj t) f = misshapen
+onMethod p (method a o m ts r) f = cond (p a) (onResult r (f a o m ts)) misshapen
+
+-- Argument k, and the arguments with s in its place.
+unfoldable pub onPlaced : Term → ℕ → Terms → (Term → Terms → Conclusion) → Conclusion
+onPlaced s k nil f = misshapen
+onPlaced s zero (cons t ts) f = f t (cons s ts)
+onPlaced s (suc k) (cons t ts) f = onPlaced s k ts (λ q us. f q (cons t us))
+
+unfoldable pub onFound : Search Literal → (Term → Literal → Conclusion) → Conclusion
+onFound (past k) f = misshapen
+onFound (found s l) f = f s l
+
+-- A rule with two parents, on the literal at I, the literal at J and the other literals.
+abbrev pub withNew : Clause → Agreement → Atom → Conclusion
+withNew c g x = concludes g (plus x ∷ c)
+
+unfoldable pub onSub : Literal → (Term → Term → Conclusion) → Conclusion
+onSub l f = onPlus l (λ y. onLink Sub y f)
+
+unfoldable pub conclude-res : Literal → Literal → Clause → Conclusion
+conclude-res l m c = onMinus l (λ x. onPlus m (λ y. concludes (covering y x) c))
+
+unfoldable pub conclude-acy : Literal → Literal → Clause → Conclusion
+conclude-acy l m c = onSub l (λ p q. onSub m (λ q′ p′. withNew c (equal (cons p (one q)) (cons p′ (one q′))) (link Eq p q)))
+
+-- tra and inc: the first literal is of the link asked for, and so is the new one.
+unfoldable pub conclude-link : Link → Literal → Literal → Clause → Conclusion
+conclude-link k l m c = onPlus l (λ x. onLink k x (λ p q. onSub m (λ q′ r. withNew c (equal (one q) (one q′)) (link k p r))))
+
+unfoldable pub onSignature : Literal → (Arrow → Term → Term → Terms → Term → Conclusion) → Conclusion
+onSignature l f = onPlus l (λ x. onMethod signature x f)
+
+unfoldable pub conclude-inh : Literal → Literal → Clause → Conclusion
+conclude-inh l m c = onSignature l (λ a p n ts r. onSub m (λ s p′. withNew c (equal (one p) (one p′)) (method a s n ts (value r))))
+
+unfoldable pub conclude-inp : ℕ → Literal → Literal → Clause → Conclusion
+conclude-inp k l m c =
+    onSignature l (λ a o n ts r. onSub m (λ s q′. onPlaced s k ts (λ q us. withNew c (equal (one q) (one q′)) (method a o n us (value r)))))
+
+unfoldable pub conclude-out : Literal → Literal → Clause → Conclusion
+conclude-out l m c = onSignature l (λ a o n ts r. onSub m (λ r′ s. withNew c (equal (one r) (one r′)) (method a o n ts (value s))))
+
+unfoldable pub onScalar : Literal → (Arrow → Term → Term → Terms → Term → Conclusion) → Conclusion
+onScalar l f = onPlus l (λ x. onMethod scalar x f)
+
+unfoldable pub conclude-sca : Literal → Literal → Clause → Conclusion
+conclude-sca l m c =
+    onScalar l (λ a o n ts r. onScalar m (λ a′ o′ n′ ts′ r′. withNew c (alike (method a o n ts none) (method a′ o′ n′ ts′ none)) (link Eq r r′)))
+
+unfoldable pub two : Parent → Parent → ℕ → ℕ → (Literal → Literal → Clause → Conclusion) → Conclusion
+two A B i j f = onAt i (filled A) (λ l r. onAt j (filled B) (λ m r′. f l m (r ++ r′)))
+
+unfoldable pub conclude-fac : ℕ → ℕ → Literal → Clause → Literal → Clause → Conclusion
+conclude-fac i j (lit Positive x) r m r′ = cond (eqb i j) misshapen (onPlus m (λ y. concludes (covering y x) r′))
+conclude-fac i j (lit Negative x) r m r′ = cond (eqb i j) misshapen (onMinus m (λ y. concludes (covering y x) r))
+
+unfoldable pub conclude-par : Parent → ℕ → Literal → Clause → Literal → Clause → Conclusion
+conclude-par A k l r m r′ =
+    onPlus m (λ y. onLink Eq y (λ s′ u. onFound (findLiteral (A .image) u l k) (λ s l′.
+    concludes (equal (one s) (one s′)) (l′ ∷ (fillClause (A .image) r ++ r′)))))
+
+unfoldable pub conclude : Parent → Parent → ℕ → ℕ → ℕ → Rule → Conclusion
+conclude A B i j k Refl = withNew [] always (link Sub (A .image 0) (A .image 0))
+conclude A B i j k Res = two A B i j conclude-res
+conclude A B i j k Fac = onAt i (filled A) (λ l r. onAt j (filled A) (conclude-fac i j l r))
+conclude A B i j k Par = onAt i (A .clause) (λ l r. onAt j (filled B) (conclude-par A k l r))
+conclude A B i j k Acy = two A B i j conclude-acy
+conclude A B i j k Tra = two A B i j (conclude-link Sub)
+conclude A B i j k Inc = two A B i j (conclude-link Mem)
+conclude A B i j k Inh = two A B i j conclude-inh
+conclude A B i j k Inp = two A B i j (conclude-inp k)
+conclude A B i j k Out = two A B i j conclude-out
+conclude A B i j k Sca = two A B i j conclude-sca
+conclude A B i j k Eli = onAt i (filled A) (λ l r. onMinus l (λ x. onObj x (λ p. concludes always r)))
+
+-- What the rule table says of a step.
+unfoldable pub conclusion : List Clause → Step → Conclusion
+conclusion cs s = conclude (parentA cs s) (parentB cs s) (s .i) (s .j) (s .k) (s .rule)
+
+abbrev pub StepInfers : List Clause → Step → Agreement → Clause → Type 0
+StepInfers cs s g c = Infers (parentA cs s) (parentB cs s) (s .i) (s .j) (s .k) (s .rule) g c
+
+-- "9. A position, sign, atom kind, result, K or pair I, J isn't as the rule's shape says." Passed: the table has a row for them.
+unfoldable pub Shaped : List Clause → Step → Type 0
+Shaped cs s = (g : Agreement) × (c : Clause) × StepInfers cs s g c
+
+-- "10. The agreement fails." Passed: the row's agreement holds.
+unfoldable pub Agrees : List Clause → Step → Type 0
+Agrees cs s = (g : Agreement) (c : Clause) → StepInfers cs s g c → Holds g
+
+-- "11. The claim isn't the rule's." Passed: the row's clause is the claim.
+unfoldable pub Claims : List Clause → Step → Type 0
+Claims cs s = (g : Agreement) (c : Clause) → StepInfers cs s g c → c ≡ s .claim
+
+-- "document 01's rules give its claim from its parents by its numbers under its two lists"
+pub record Given (cs : List Clause) (s : Step) : Type 0 where
+  pub parents : T (parentsBelow cs s)
+  pub numbers : T (numbersRight cs s)
+  pub agreement : Agreement
+  pub infers : StepInfers cs s agreement (s .claim)
+  pub holds : Holds agreement
+
+-- Whether an agreement holds is decided.
+unfoldable pub covers? : (x y : Atom) → Dec (x ≡ y) → Dec (bare x ≡ y) → Dec (Covers x y)
+unfolding Covers
+covers? x y (yes e) d = yes (inl e)
+covers? x y (no e) (yes b) = yes (inr b)
+covers? x y (no e) (no b) = no (⊎-elim e b)
+
+unfoldable pub holds? : (g : Agreement) → Dec (Holds g)
+unfolding Holds
+holds? always = yes tt
+holds? (equal ts us) = terms? ts us
+holds? (covering x y) = covers? x y (atom? x y) (atom? (bare x) y)
+holds? (alike x y) = atom? x y
+
+-- Checks 7 to 11 of a step, in order.
+unfoldable pub judgeConclusion : Conclusion → Clause → Judged
+judgeConclusion misshapen claim = Misshapen
+judgeConclusion (concludes g c) claim = ite (holds? g) (ite (clause? c claim) Passed WrongClaim) Disagrees
+
+unfoldable pub judge : List Clause → Step → Judged
+judge cs s = cond (parentsBelow cs s) (cond (numbersRight cs s) (judgeConclusion (conclusion cs s) (s .claim)) WrongNumber) NoParent
+
+-- The number in document 01 of the check that fails; 0 where none does.
+unfoldable pub judgedNumber : Judged → ℕ
+judgedNumber Passed = 0
+judgedNumber NoParent = 7
+judgedNumber WrongNumber = 8
+judgedNumber Misshapen = 9
+judgedNumber Disagrees = 10
+judgedNumber WrongClaim = 11

@@ -1,0 +1,151 @@
+-- The two tables of document 01, "The rules": which numbers each rule uses, and the rule table.
+use Prim.Native.Nat.{ℕ, zero, suc}
+use mathlib.Core.Bool.{Bool, true, false}
+use mathlib.Core.List.{List, [], _∷_, _++_}
+use mathlib.Core.Logic.{_⊎_}
+use mathlib.Core.Path.{_≡_}
+use lib.Dec.{T}
+use Rattle.logic.specs.declared.Sign.{Sign}
+use Rattle.logic.specs.declared.Sign.the-variants.{Positive, Negative}
+use Rattle.logic.specs.declared.Link.{Link}
+use Rattle.logic.specs.declared.Link.the-variants.{Eq, Mem, Sub}
+use Rattle.logic.specs.declared.Arrow.{Arrow}
+use Rattle.logic.specs.declared.Arrow.the-variants.{Sv, Si, Mv, Mi, St, Mt}
+use Rattle.logic.specs.declared.Rule.{Rule}
+use Rattle.logic.specs.declared.Rule.the-variants.{Refl, Res, Fac, Par, Acy, Tra, Inc, Inh, Inp, Out, Sca, Eli}
+use Rattle.logic.specs.Syntax.{Term, Terms, nil, cons, Result, value, none, Atom, link, obj, method, Literal, lit, Clause, mayBeNone}
+use Rattle.logic.specs.Fill.{Substitution, fillClause}
+use Rattle.logic.specs.Occurrence.{found, findLiteral}
+
+-- "a second table says which numbers each of the twelve rules uses"
+pub record Uses : Type 0 where
+  pub a : Bool
+  pub i : Bool
+  pub b : Bool
+  pub j : Bool
+  pub k : Bool
+
+abbrev pub row : Bool → Bool → Bool → Bool → Bool → Uses
+row a i b j k = record { a = a; i = i; b = b; j = j; k = k }
+
+unfoldable pub uses : Rule → Uses
+uses Refl = row false false false false false
+uses Res = row true true true true false
+uses Fac = row true true false true false
+uses Par = row true true true true true
+uses Acy = row true true true true false
+uses Tra = row true true true true false
+uses Inc = row true true true true false
+uses Inh = row true true true true false
+uses Inp = row true true true true true
+uses Out = row true true true true false
+uses Sca = row true true true true false
+uses Eli = row true true false false false
+
+-- An atom with none in place of a term result, where it may have none.
+unfoldable pub bareResult : Bool → Result → Result
+bareResult true r = none
+bareResult false r = r
+
+unfoldable pub bare : Atom → Atom
+bare (link l t u) = link l t u
+bare (obj t) = obj t
+bare (method a o m ts r) = method a o m ts (bareResult (mayBeNone a) r)
+
+-- "X *covers* Y if they are equal, or Y is X with none in place of a term result."
+unfoldable pub Covers : Atom → Atom → Type 0
+Covers x y = (x ≡ y) ⊎ (bare x ≡ y)
+
+-- The third column, "agreement, filled": an empty cell, terms that are equal, an atom that covers another,
+-- or two arrow atoms alike but for their results.
+pub data Agreement : Type 0 where
+  always : Agreement
+  equal : Terms → Terms → Agreement
+  covering : Atom → Atom → Agreement
+  alike : Atom → Atom → Agreement
+
+unfoldable pub Holds : Agreement → Type 0
+Holds always = Unit
+Holds (equal ts us) = ts ≡ us
+Holds (covering x y) = Covers x y
+Holds (alike x y) = x ≡ y
+
+-- "st or mt", and "sv or si".
+unfoldable pub signature : Arrow → Bool
+signature Sv = false
+signature Si = false
+signature Mv = false
+signature Mi = false
+signature St = true
+signature Mt = true
+
+unfoldable pub scalar : Arrow → Bool
+scalar Sv = true
+scalar Si = true
+scalar Mv = false
+scalar Mi = false
+scalar St = false
+scalar Mt = false
+
+-- "argument K": term q stands at place k of ts, and with s in its place they are us.
+pub data Placed (s : Term) : ℕ → Term → Terms → Terms → Type 0 where
+  here : {q : Term} {ts : Terms} → Placed s zero q (cons q ts) (cons s ts)
+  there : {k : ℕ} {q t : Term} {ts us : Terms} → Placed s k q ts us → Placed s (suc k) q (cons t ts) (cons t us)
+
+abbrev pub plus : Atom → Literal
+plus x = lit Positive x
+
+abbrev pub minus : Atom → Literal
+minus x = lit Negative x
+
+abbrev pub one : Term → Terms
+one t = cons t nil
+
+-- The rule table for rules with two parents, par apart: the literal at I, the literal at J, both filled, the agreement,
+-- and the new literal if any.
+pub data Row (k : ℕ) : Rule → Literal → Literal → Agreement → Clause → Type 0 where
+  res : {x y : Atom} → Row k Res (minus x) (plus y) (covering y x) []
+  acy : {p q p′ q′ : Term} →
+      Row k Acy (plus (link Sub p q)) (plus (link Sub q′ p′)) (equal (cons p (one q)) (cons p′ (one q′))) (plus (link Eq p q) ∷ [])
+  tra : {p q q′ r : Term} → Row k Tra (plus (link Sub p q)) (plus (link Sub q′ r)) (equal (one q) (one q′)) (plus (link Sub p r) ∷ [])
+  inc : {p q q′ r : Term} → Row k Inc (plus (link Mem p q)) (plus (link Sub q′ r)) (equal (one q) (one q′)) (plus (link Mem p r) ∷ [])
+  inh : {a : Arrow} {p p′ m r s : Term} {ts : Terms} → T (signature a) →
+      Row k Inh (plus (method a p m ts (value r))) (plus (link Sub s p′)) (equal (one p) (one p′)) (plus (method a s m ts (value r)) ∷ [])
+  inp : {a : Arrow} {o m q q′ r s : Term} {ts us : Terms} → T (signature a) → Placed s k q ts us →
+      Row k Inp (plus (method a o m ts (value r))) (plus (link Sub s q′)) (equal (one q) (one q′)) (plus (method a o m us (value r)) ∷ [])
+  out : {a : Arrow} {o m r r′ s : Term} {ts : Terms} → T (signature a) →
+      Row k Out (plus (method a o m ts (value r))) (plus (link Sub r′ s)) (equal (one r) (one r′)) (plus (method a o m ts (value s)) ∷ [])
+  sca : {a b : Arrow} {o m r o′ m′ r′ : Term} {ts ts′ : Terms} → T (scalar a) → T (scalar b) →
+      Row k Sca (plus (method a o m ts (value r))) (plus (method b o′ m′ ts′ (value r′))) (alike (method a o m ts none) (method b o′ m′ ts′ none)) (plus (link Eq r r′) ∷ [])
+
+-- A parent with the terms for its variables.
+pub record Parent : Type 0 where
+  pub clause : Clause
+  pub image : Substitution
+
+unfoldable pub filled : Parent → Clause
+filled p = fillClause (p .image) (p .clause)
+
+-- "\"At I\" is in A, \"at J\" in B": literal l stands at position i of c, and r is c's other literals.
+pub data At : ℕ → Literal → Clause → Clause → Type 0 where
+  here : {l : Literal} {c : Clause} → At zero l (l ∷ c) c
+  there : {i : ℕ} {l m : Literal} {c r : Clause} → At i l c r → At (suc i) l (m ∷ c) (m ∷ r)
+
+-- The rule table: from A and B by the numbers i, j, k a rule gives a clause if the agreement holds.
+-- "The claim, all of it filled, is the new literal if any, A's other literals, then B's other literals, in order."
+-- "For fac it is A without literal J (positive) or without literal I (negative)." refl's T is the image of variable 0.
+pub data Infers (A B : Parent) (i j k : ℕ) : Rule → Agreement → Clause → Type 0 where
+  refl : Infers A B i j k Refl always (plus (link Sub (A .image 0) (A .image 0)) ∷ [])
+  fac⁺ : {x y : Atom} {r r′ : Clause} → At i (plus x) (filled A) r → At j (plus y) (filled A) r′ → (i ≡ j → ⊥) → Infers A B i j k Fac (covering y x) r′
+  fac⁻ : {x y : Atom} {r r′ : Clause} → At i (minus x) (filled A) r → At j (minus y) (filled A) r′ → (i ≡ j → ⊥) → Infers A B i j k Fac (covering y x) r
+  par : {l l′ : Literal} {s s′ u : Term} {r r′ : Clause} →
+      At i l (A .clause) r →
+      At j (plus (link Eq s′ u)) (filled B) r′ →
+      findLiteral (A .image) u l k ≡ found s l′ →
+      Infers A B i j k Par (equal (one s) (one s′)) (l′ ∷ (fillClause (A .image) r ++ r′))
+  eli : {p : Term} {r : Clause} → At i (minus (obj p)) (filled A) r → Infers A B i j k Eli always r
+  two : {rule : Rule} {l m : Literal} {g : Agreement} {new r r′ : Clause} →
+      At i l (filled A) r →
+      At j m (filled B) r′ →
+      Row k rule l m g new →
+      Infers A B i j k rule g (new ++ (r ++ r′))
