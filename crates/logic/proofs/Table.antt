@@ -1,0 +1,271 @@
+-- The rule table as a relation and as a function agree.
+use Prim.Native.Nat.{ℕ, zero, suc}
+use mathlib.Core.Bool.{Bool, true, false, cond}
+use mathlib.Core.List.{List, [], _∷_, _++_}
+use mathlib.Core.Logic.{ite, if-pos}
+use mathlib.Core.Path.{_≡_, refl, sym, ap, subst, _∙_}
+use native.Mathlib.Omega.{arith}
+use lib.Dec.{T, eqb, eqb→eq, eqb-refl}
+use Rattle.logic.specs.declared.Sign.{Sign}
+use Rattle.logic.specs.declared.Sign.the-variants.{Positive, Negative}
+use Rattle.logic.specs.declared.Link.{Link}
+use Rattle.logic.specs.declared.Link.the-variants.{Eq, Mem, Sub}
+use Rattle.logic.specs.declared.Arrow.{Arrow}
+use Rattle.logic.specs.declared.Rule.{Rule}
+use Rattle.logic.specs.declared.Rule.the-variants.{Refl, Res, Fac, Par, Acy, Tra, Inc, Inh, Inp, Out, Sca, Eli}
+use Rattle.logic.specs.Syntax.{Term, Terms, nil, cons, Result, value, none, Atom, link, obj, method, Literal, lit, Clause}
+use Rattle.logic.specs.Equality.{link?}
+use Rattle.logic.specs.Fill.{fillClause}
+use Rattle.logic.specs.Occurrence.{Search, past, found, findLiteral}
+use Rattle.logic.specs.Rules.{Agreement, always, equal, covering, alike, signature, scalar, Placed, plus, minus, one, Row, Parent, filled, At, Infers}
+use Rattle.logic.specs.Judge.{Conclusion, misshapen, concludes, onAt, onPlus, onMinus, onLink, onObj, onResult, onMethod, onPlaced, onFound, onSub, onSignature, onScalar, withNew, two, conclude, conclude-res, conclude-acy, conclude-link, conclude-inh, conclude-inp, conclude-out, conclude-sca, conclude-fac, conclude-par}
+
+-- Nothing misshapen concludes.
+not-misshapen : {g : Agreement} {c : Clause} {P : Type 0} → misshapen ≡ concludes g c → P
+not-misshapen e = let z : _≡_ {A = ℕ} 0 1 = cc in absurd (omega arith)
+
+-- Each view, from the table to the function: what it finds.
+at-finds : {i : ℕ} {l : Literal} {c r : Clause} (f : Literal → Clause → Conclusion) → At i l c r → onAt i c f ≡ f l r
+unfolding onAt
+at-finds f At.here = refl
+at-finds f (At.there {m = m} p) = at-finds (λ l r. f l (m ∷ r)) p
+
+link-finds : (l : Link) (t u : Term) (f : Term → Term → Conclusion) → onLink l (link l t u) f ≡ f t u
+unfolding onLink
+link-finds l t u f = if-pos (link? l l) refl (f t u) misshapen
+
+method-finds : (p : Arrow → Bool) (a : Arrow) (o m : Term) (ts : Terms) (r : Term) (f : Arrow → Term → Term → Terms → Term → Conclusion) →
+    T (p a) → onMethod p (method a o m ts (value r)) f ≡ f a o m ts r
+unfolding onMethod onResult
+method-finds p a o m ts r f h = go (p a) h
+  where
+    go : (b : Bool) → T b → cond b (f a o m ts r) misshapen ≡ f a o m ts r
+    go true h = refl
+    go false h = absurd h
+
+placed-finds : {s : Term} {k : ℕ} {q : Term} {ts us : Terms} (f : Term → Terms → Conclusion) → Placed s k q ts us → onPlaced s k ts f ≡ f q us
+unfolding onPlaced
+placed-finds f Placed.here = refl
+placed-finds f (Placed.there {t = t} p) = placed-finds (λ q us. f q (cons t us)) p
+
+found-finds : (w : Search Literal) (f : Term → Literal → Conclusion) {s : Term} {l : Literal} → w ≡ found s l → onFound w f ≡ f s l
+unfolding onFound
+found-finds w f {s} {l} e = rw e
+
+-- Each view, from the function to the table: where it concludes, it found.
+module _ {g : Agreement} {d : Clause} {P : Type 0} where
+  at-found : (i : ℕ) (c : Clause) (f : Literal → Clause → Conclusion) → onAt i c f ≡ concludes g d →
+      ((l : Literal) (r : Clause) → At i l c r → f l r ≡ concludes g d → P) → P
+  unfolding onAt
+  at-found i [] f e k = not-misshapen e
+  at-found zero (l ∷ c) f e k = k l c At.here e
+  at-found (suc i) (m ∷ c) f e k = at-found i c (λ l r. f l (m ∷ r)) e (λ l r p. k l (m ∷ r) (At.there p))
+
+  plus-found : (l : Literal) (f : Atom → Conclusion) → onPlus l f ≡ concludes g d → ((x : Atom) → l ≡ plus x → f x ≡ concludes g d → P) → P
+  unfolding onPlus
+  plus-found (lit Positive x) f e k = k x refl e
+  plus-found (lit Negative x) f e k = not-misshapen e
+
+  minus-found : (l : Literal) (f : Atom → Conclusion) → onMinus l f ≡ concludes g d → ((x : Atom) → l ≡ minus x → f x ≡ concludes g d → P) → P
+  unfolding onMinus
+  minus-found (lit Positive x) f e k = not-misshapen e
+  minus-found (lit Negative x) f e k = k x refl e
+
+  link-found : (n : Link) (x : Atom) (f : Term → Term → Conclusion) → onLink n x f ≡ concludes g d →
+      ((t u : Term) → x ≡ link n t u → f t u ≡ concludes g d → P) → P
+  unfolding onLink
+  link-found n (link l t u) f e k = go (link? n l) e
+    where
+      go : (w : Dec (n ≡ l)) → ite w (f t u) misshapen ≡ concludes g d → P
+      go (yes h) e = k t u (ap (λ v. link v t u) (sym h)) e
+      go (no h) e = not-misshapen e
+  link-found n (obj t) f e k = not-misshapen e
+  link-found n (method a o m ts r) f e k = not-misshapen e
+
+  obj-found : (x : Atom) (f : Term → Conclusion) → onObj x f ≡ concludes g d → ((t : Term) → x ≡ obj t → f t ≡ concludes g d → P) → P
+  unfolding onObj
+  obj-found (link l t u) f e k = not-misshapen e
+  obj-found (obj t) f e k = k t refl e
+  obj-found (method a o m ts r) f e k = not-misshapen e
+
+  method-found : (p : Arrow → Bool) (x : Atom) (f : Arrow → Term → Term → Terms → Term → Conclusion) → onMethod p x f ≡ concludes g d →
+      ((a : Arrow) (o m : Term) (ts : Terms) (r : Term) → T (p a) → x ≡ method a o m ts (value r) → f a o m ts r ≡ concludes g d → P) → P
+  unfolding onMethod onResult
+  method-found p (link l t u) f e k = not-misshapen e
+  method-found p (obj t) f e k = not-misshapen e
+  method-found p (method a o m ts none) f e k = go (p a) e
+    where
+      go : (b : Bool) → cond b misshapen misshapen ≡ concludes g d → P
+      go true e = not-misshapen e
+      go false e = not-misshapen e
+  method-found p (method a o m ts (value r)) f e k = go (p a) (λ h. k a o m ts r h refl) e
+    where
+      go : (b : Bool) → (T b → f a o m ts r ≡ concludes g d → P) → cond b (f a o m ts r) misshapen ≡ concludes g d → P
+      go true k e = k tt e
+      go false k e = not-misshapen e
+
+  placed-found : (s : Term) (n : ℕ) (ts : Terms) (f : Term → Terms → Conclusion) → onPlaced s n ts f ≡ concludes g d →
+      ((q : Term) (us : Terms) → Placed s n q ts us → f q us ≡ concludes g d → P) → P
+  unfolding onPlaced
+  placed-found s n nil f e k = not-misshapen e
+  placed-found s zero (cons t ts) f e k = k t (cons s ts) Placed.here e
+  placed-found s (suc n) (cons t ts) f e k = placed-found s n ts (λ q us. f q (cons t us)) e (λ q us p. k q (cons t us) (Placed.there p))
+
+  found-found : (w : Search Literal) (f : Term → Literal → Conclusion) → onFound w f ≡ concludes g d →
+      ((s : Term) (l : Literal) → w ≡ found s l → f s l ≡ concludes g d → P) → P
+  unfolding onFound
+  found-found (past n) f e k = not-misshapen e
+  found-found (found s l) f e k = k s l refl e
+
+  -- The views of a positive literal.
+  sub-found : (n : Link) (l : Literal) (f : Term → Term → Conclusion) → onPlus l (λ x. onLink n x f) ≡ concludes g d →
+      ((t u : Term) → l ≡ plus (link n t u) → f t u ≡ concludes g d → P) → P
+  sub-found n l f e k = plus-found l _ e (λ x e₁ e₂. link-found n x f e₂ (λ t u e₃. k t u (e₁ ∙ ap plus e₃)))
+
+  arrow-found : (p : Arrow → Bool) (l : Literal) (f : Arrow → Term → Term → Terms → Term → Conclusion) → onPlus l (λ x. onMethod p x f) ≡ concludes g d →
+      ((a : Arrow) (o m : Term) (ts : Terms) (r : Term) → T (p a) → l ≡ plus (method a o m ts (value r)) → f a o m ts r ≡ concludes g d → P) → P
+  arrow-found p l f e k = plus-found l _ e (λ x e₁ e₂. method-found p x f e₂ (λ a o m ts r h e₃. k a o m ts r h (e₁ ∙ ap plus e₃)))
+
+two-finds : (A B : Parent) {i j : ℕ} {l m : Literal} {r r′ : Clause} (f : Literal → Literal → Clause → Conclusion) →
+    At i l (filled A) r → At j m (filled B) r′ → two A B i j f ≡ f l m (r ++ r′)
+unfolding two
+two-finds A B {i} {j} {l} {m} {r} {r′} f p q =
+    at-finds (λ l r. onAt j (filled B) (λ m r′. f l m (r ++ r′))) p ∙ at-finds (λ m r′. f l m (r ++ r′)) q
+
+-- The row of a rule with two parents is what its function concludes.
+row-concludes : (A B : Parent) (i j k : ℕ) {rule : Rule} {l m : Literal} {g : Agreement} {new r r′ : Clause} →
+    At i l (filled A) r → At j m (filled B) r′ → Row k rule l m g new → conclude A B i j k rule ≡ concludes g (new ++ (r ++ r′))
+unfolding conclude conclude-res conclude-acy conclude-link conclude-inh conclude-inp conclude-out conclude-sca onSub onSignature onScalar onPlus onMinus
+row-concludes A B i j k p q Row.res = two-finds A B conclude-res p q
+row-concludes A B i j k p q Row.acy = two-finds A B conclude-acy p q ∙ (link-finds Sub _ _ _ ∙ link-finds Sub _ _ _)
+row-concludes A B i j k p q Row.tra = two-finds A B (conclude-link Sub) p q ∙ (link-finds Sub _ _ _ ∙ link-finds Sub _ _ _)
+row-concludes A B i j k p q Row.inc = two-finds A B (conclude-link Mem) p q ∙ (link-finds Mem _ _ _ ∙ link-finds Sub _ _ _)
+row-concludes A B i j k p q (Row.inh h) = two-finds A B conclude-inh p q ∙ (method-finds signature _ _ _ _ _ _ h ∙ link-finds Sub _ _ _)
+row-concludes A B i j k p q (Row.inp h w) =
+    two-finds A B (conclude-inp k) p q ∙ (method-finds signature _ _ _ _ _ _ h ∙ (link-finds Sub _ _ _ ∙ placed-finds _ w))
+row-concludes A B i j k p q (Row.out h) = two-finds A B conclude-out p q ∙ (method-finds signature _ _ _ _ _ _ h ∙ link-finds Sub _ _ _)
+row-concludes A B i j k p q (Row.sca h h′) = two-finds A B conclude-sca p q ∙ (method-finds scalar _ _ _ _ _ _ h ∙ method-finds scalar _ _ _ _ _ _ h′)
+
+fac-finds : (A : Parent) (i j : ℕ) {l m : Literal} {r r′ : Clause} → At i l (filled A) r → At j m (filled A) r′ →
+    onAt i (filled A) (λ l r. onAt j (filled A) (conclude-fac i j l r)) ≡ conclude-fac i j l r m r′
+fac-finds A i j {l} {m} {r} p q = at-finds (λ l r. onAt j (filled A) (conclude-fac i j l r)) p ∙ at-finds (conclude-fac i j l r) q
+
+-- Two positions that differ.
+apart-positions : (i j : ℕ) (x y : Conclusion) → (i ≡ j → ⊥) → cond (eqb i j) x y ≡ y
+apart-positions i j x y n = go (eqb i j) (λ t. n (eqb→eq i j t))
+  where
+    go : (b : Bool) → (T b → ⊥) → cond b x y ≡ y
+    go true n = absurd (n tt)
+    go false n = refl
+
+-- Whatever the table infers, the function concludes.
+pub infers→concludes : (A B : Parent) (i j k : ℕ) {rule : Rule} {g : Agreement} {c : Clause} →
+    Infers A B i j k rule g c → conclude A B i j k rule ≡ concludes g c
+unfolding conclude conclude-fac conclude-par onPlus onMinus onObj onFound
+infers→concludes A B i j k Infers.refl = refl
+infers→concludes A B i j k (Infers.fac⁺ p q n) = fac-finds A i j p q ∙ apart-positions i j _ _ n
+infers→concludes A B i j k (Infers.fac⁻ p q n) = fac-finds A i j p q ∙ apart-positions i j _ _ n
+infers→concludes A B i j k (Infers.par {l = l} {r = r} p q e) =
+    at-finds (λ l r. onAt j (filled B) (conclude-par A k l r)) p ∙ (at-finds (conclude-par A k l r) q ∙ (link-finds Eq _ _ _ ∙ found-finds _ _ e))
+infers→concludes A B i j k (Infers.eli p) = at-finds _ p
+infers→concludes A B i j k (Infers.two p q w) = row-concludes A B i j k p q w
+
+concluded : {g g′ : Agreement} {c d : Clause} → concludes g′ c ≡ concludes g d → (g′ ≡ g) × (c ≡ d)
+concluded e = (cc, cc)
+
+differ : {g : Agreement} {d : Clause} {P : Type 0} (i j : ℕ) (x : Conclusion) → cond (eqb i j) misshapen x ≡ concludes g d →
+    ((i ≡ j → ⊥) → x ≡ concludes g d → P) → P
+differ {g} {d} {P} i j x e k = go (eqb i j) (λ n. k (λ h. n (subst (λ m. T (eqb i m)) h (eqb-refl i)))) e
+  where
+    go : (b : Bool) → ((T b → ⊥) → x ≡ concludes g d → P) → cond b misshapen x ≡ concludes g d → P
+    go true k e = not-misshapen e
+    go false k e = k (λ t. t) e
+
+-- Where a rule's function concludes, the rule has a row.
+abbrev Finds : ℕ → Agreement → Clause → Rule → (Literal → Literal → Clause → Conclusion) → Type 0
+Finds k g d rule f = (l m : Literal) (c : Clause) → f l m c ≡ concludes g d → (new : Clause) × Row k rule l m g new × (d ≡ new ++ c)
+
+module _ {k : ℕ} {g : Agreement} {d : Clause} where
+  -- A row, its literals and agreement as they were found.
+  row-found : {rule : Rule} {l l′ m m′ : Literal} {g′ : Agreement} {new : Clause} (c : Clause) → l ≡ l′ → m ≡ m′ → Row k rule l′ m′ g′ new →
+      concludes g′ (new ++ c) ≡ concludes g d → (new : Clause) × Row k rule l m g new × (d ≡ new ++ c)
+  row-found {rule} {l} {l′} {m} {m′} {g′} {new} c e₁ e₂ w e = (new, rw (e₁, e₂, ← h) w, cc)
+    where
+      h : g′ ≡ g
+      h = cc
+
+  found-res : Finds k g d Res conclude-res
+  unfolding conclude-res
+  found-res l m c e = minus-found l _ e (λ x e₁ h. plus-found m _ h (λ y e₂. row-found c e₁ e₂ Row.res))
+
+  found-acy : Finds k g d Acy conclude-acy
+  unfolding conclude-acy onSub
+  found-acy l m c e = sub-found Sub l _ e (λ p q e₁ h. sub-found Sub m _ h (λ q′ p′ e₂. row-found c e₁ e₂ Row.acy))
+
+  found-tra : Finds k g d Tra (conclude-link Sub)
+  unfolding conclude-link onSub
+  found-tra l m c e = sub-found Sub l _ e (λ p q e₁ h. sub-found Sub m _ h (λ q′ r e₂. row-found c e₁ e₂ Row.tra))
+
+  found-inc : Finds k g d Inc (conclude-link Mem)
+  unfolding conclude-link onSub
+  found-inc l m c e = sub-found Mem l _ e (λ p q e₁ h. sub-found Sub m _ h (λ q′ r e₂. row-found c e₁ e₂ Row.inc))
+
+  found-inh : Finds k g d Inh conclude-inh
+  unfolding conclude-inh onSub onSignature
+  found-inh l m c e = arrow-found signature l _ e (λ a o n ts r t e₁ h. sub-found Sub m _ h (λ s p e₂. row-found c e₁ e₂ (Row.inh t)))
+
+  found-inp : Finds k g d Inp (conclude-inp k)
+  unfolding conclude-inp onSub onSignature
+  found-inp l m c e =
+      arrow-found signature l _ e (λ a o n ts r t e₁ h. sub-found Sub m _ h (λ s q e₂ h₂.
+      placed-found s k ts _ h₂ (λ q′ us w. row-found c e₁ e₂ (Row.inp t w))))
+
+  found-out : Finds k g d Out conclude-out
+  unfolding conclude-out onSub onSignature
+  found-out l m c e = arrow-found signature l _ e (λ a o n ts r t e₁ h. sub-found Sub m _ h (λ r′ s e₂. row-found c e₁ e₂ (Row.out t)))
+
+  found-sca : Finds k g d Sca conclude-sca
+  unfolding conclude-sca onScalar
+  found-sca l m c e =
+      arrow-found scalar l _ e (λ a o n ts r t e₁ h. arrow-found scalar m _ h (λ a′ o′ n′ ts′ r′ t′ e₂. row-found c e₁ e₂ (Row.sca t t′)))
+
+-- Whatever the function concludes, the table infers.
+module _ (A B : Parent) (i j k : ℕ) {g : Agreement} {d : Clause} where
+  two-found : {rule : Rule} (f : Literal → Literal → Clause → Conclusion) → two A B i j f ≡ concludes g d →
+      Finds k g d rule f → Infers A B i j k rule g d
+  unfolding two
+  two-found {rule} f e row =
+      at-found i (filled A) _ e (λ l r p e₁. at-found j (filled B) _ e₁ (λ m r′ q e₂.
+      let w = row l m (r ++ r′) e₂ in
+      subst (λ c. Infers A B i j k rule g c) (sym (w .2)) (Infers.two p q (w .1))))
+
+  fac-found : (l m : Literal) (r r′ : Clause) → At i l (filled A) r → At j m (filled A) r′ → conclude-fac i j l r m r′ ≡ concludes g d →
+      Infers A B i j k Fac g d
+  unfolding conclude-fac
+  fac-found (lit Positive x) m r r′ p q e = differ i j _ e (λ n h. plus-found m _ h (λ y e₁ e₂. rw (← concluded e₂ .0, ← concluded e₂ .1) (Infers.fac⁺ p (rw e₁ at q) n)))
+  fac-found (lit Negative x) m r r′ p q e = differ i j _ e (λ n h. minus-found m _ h (λ y e₁ e₂. rw (← concluded e₂ .0, ← concluded e₂ .1) (Infers.fac⁻ p (rw e₁ at q) n)))
+
+  par-found : (l m : Literal) (r r′ : Clause) → At i l (A .clause) r → At j m (filled B) r′ → conclude-par A k l r m r′ ≡ concludes g d →
+      Infers A B i j k Par g d
+  unfolding conclude-par
+  par-found l m r r′ p q e =
+      sub-found Eq m _ e (λ s u e₁ h. found-found _ _ h (λ s′ l′ e₂ e₃.
+      rw (← concluded e₃ .0, ← concluded e₃ .1) (Infers.par p (rw e₁ at q) e₂)))
+
+pub concludes→infers : (A B : Parent) (i j k : ℕ) (rule : Rule) {g : Agreement} {d : Clause} →
+    conclude A B i j k rule ≡ concludes g d → Infers A B i j k rule g d
+unfolding conclude
+concludes→infers A B i j k Refl e = rw (← concluded e .0, ← concluded e .1) Infers.refl
+concludes→infers A B i j k Res e = two-found A B i j k conclude-res e found-res
+concludes→infers A B i j k Fac e = at-found i (filled A) _ e (λ l r p h. at-found j (filled A) _ h (λ m r′ q. fac-found A B i j k l m r r′ p q))
+concludes→infers A B i j k Par e = at-found i (A .clause) _ e (λ l r p h. at-found j (filled B) _ h (λ m r′ q. par-found A B i j k l m r r′ p q))
+concludes→infers A B i j k Acy e = two-found A B i j k conclude-acy e found-acy
+concludes→infers A B i j k Tra e = two-found A B i j k (conclude-link Sub) e found-tra
+concludes→infers A B i j k Inc e = two-found A B i j k (conclude-link Mem) e found-inc
+concludes→infers A B i j k Inh e = two-found A B i j k conclude-inh e found-inh
+concludes→infers A B i j k Inp e = two-found A B i j k (conclude-inp k) e found-inp
+concludes→infers A B i j k Out e = two-found A B i j k conclude-out e found-out
+concludes→infers A B i j k Sca e = two-found A B i j k conclude-sca e found-sca
+concludes→infers A B i j k Eli e =
+    at-found i (filled A) _ e (λ l r p h. minus-found l _ h (λ x e₁ h₂. obj-found x _ h₂ (λ t e₂ e₃.
+    rw (← concluded e₃ .0, ← concluded e₃ .1) (Infers.eli (rw (e₁, e₂) at p)))))
