@@ -195,6 +195,10 @@ Agrees cs s = (g : Agreement) (c : Clause) → StepInfers cs s g c → Holds g
 unfoldable pub Claims : List Clause → Step → Type 0
 Claims cs s = (g : Agreement) (c : Clause) → StepInfers cs s g c → c ≡ s .claim
 
+-- Checks 7 to 11, in order.
+unfoldable pub stepChecks : List Clause → Step → List (Type 0)
+stepChecks cs s = T (parentsBelow cs s) ∷ (T (numbersRight cs s) ∷ (Shaped cs s ∷ (Agrees cs s ∷ (Claims cs s ∷ []))))
+
 -- "document 01's rules give its claim from its parents by its numbers under its two lists"
 pub record Given (cs : List Clause) (s : Step) : Type 0 where
   pub parents : T (parentsBelow cs s)

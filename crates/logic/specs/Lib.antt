@@ -5,6 +5,7 @@ pub mod Terms
 pub mod Each
 pub mod Fill
 pub mod Occurrence
+pub mod Checks
 pub mod Rules
 pub mod Judge
 pub mod Structure
