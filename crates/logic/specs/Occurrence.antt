@@ -42,7 +42,7 @@ findLiteral σ u (lit g x) k = mapSearch (lit g) (findAtom σ u x k)
 -- "with one occurrence of a replaced by b": the relation, on filled terms.
 mutual
   pub data Replaced (a b : Term) : Term → Term → Type 0 where
-    here : Replaced a b a b
+    here : {t u : Term} → t ≡ a → u ≡ b → Replaced a b t u
     part : {f : ℕ} {ts us : Terms} → ReplacedIn a b ts us → Replaced a b (app f ts) (app f us)
 
   pub data ReplacedIn (a b : Term) : Terms → Terms → Type 0 where

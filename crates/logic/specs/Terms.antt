@@ -1,6 +1,6 @@
 -- Lists of terms, and the terms of an atom from left to right.
 use Prim.Native.Nat.{ℕ, zero, suc}
-use Rattle.logic.specs.Syntax.{Term, Terms, nil, cons, Result, value, none, Atom, link, obj, method}
+use Rattle.logic.specs.Syntax.{Term, app, Terms, nil, cons, Result, value, none, Atom, link, obj, method}
 
 -- How many terms.
 unfoldable pub count : Terms → ℕ
@@ -28,25 +28,27 @@ termsOf (link l t u) = cons t (cons u nil)
 termsOf (obj t) = cons t nil
 termsOf (method a o m ts r) = cons o (cons m (join ts (resultTerms r)))
 
--- The first terms of us, as many as ts has, and the terms behind those.
-unfoldable pub front : Terms → Terms → Terms
-front nil us = nil
-front (cons t ts) nil = cons t ts
-front (cons t ts) (cons u us) = cons u (front ts us)
+-- The first n terms, and the terms behind those.
+unfoldable pub front : ℕ → Terms → Terms
+front zero ts = nil
+front (suc n) nil = nil
+front (suc n) (cons t ts) = cons t (front n ts)
 
-unfoldable pub rest : Terms → Terms → Terms
-rest nil us = us
-rest (cons t ts) nil = nil
-rest (cons t ts) (cons u us) = rest ts us
+unfoldable pub rest : ℕ → Terms → Terms
+rest zero ts = ts
+rest (suc n) nil = nil
+rest (suc n) (cons t ts) = rest n ts
+
+-- Term n of a list that is long enough.
+unfoldable pub nth : Terms → ℕ → Term
+nth us n = entryOr (app 0 nil) us n
 
 unfoldable pub withResult : Result → Terms → Result
-withResult (value t) us = value (entryOr t us 0)
+withResult (value t) us = value (nth us 0)
 withResult none us = none
 
--- An atom with the terms us in place of its own, left to right.
+-- An atom with the terms us in place of its own, left to right; us has as many.
 unfoldable pub withTerms : Atom → Terms → Atom
-withTerms (link l t u) us = link l (entryOr t us 0) (entryOr u us 1)
-withTerms (obj t) us = obj (entryOr t us 0)
-withTerms (method a o m ts r) us =
-    let vs : Terms = rest (cons o (cons m nil)) us in
-    method a (entryOr o us 0) (entryOr m us 1) (front ts vs) (withResult r (rest ts vs))
+withTerms (link l t u) us = link l (nth us 0) (nth us 1)
+withTerms (obj t) us = obj (nth us 0)
+withTerms (method a o m ts r) us = method a (nth us 0) (nth us 1) (front (count ts) (rest 2 us)) (withResult r (rest (count ts) (rest 2 us)))
