@@ -11,7 +11,7 @@ use Rattle.logic.proofs.Filling.{compose, fill-fill, fills-fills, terms
 not-past : {X : Type 0} {k : ℕ} {s : Term} {x : X} {P : Type 0} → past k ≡ found s x → P
 not-past e = let z : _≡_ {A = ℕ} 0 1 = cc in absurd (omega arith)
 
-found-map : {X Y P : Type 0} {s : Term} {y : Y} (f : X → Y) (w : Search X) → mapSearch f w ≡ found s y → ((x : X) → w ≡ found s x → f x ≡ y → P) → P
+pub found-map : {X Y P : Type 0} {s : Term} {y : Y} (f : X → Y) (w : Search X) → mapSearch f w ≡ found s y → ((x : X) → w ≡ found s x → f x ≡ y → P) → P
 unfolding mapSearch
 found-map f (past k) e k′ = not-past e
 found-map {s} f (found t x) e k = k x (cc) (cc)

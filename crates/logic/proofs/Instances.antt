@@ -28,7 +28,7 @@ module _ (γ : Substitution) where
   unfolding filled further
   filled-further A = sym (clause-fill γ (A .image) (A .clause))
 
-  at-fill : {i : ℕ} {l : Literal} {c r : Clause} → At i l c r → At i (fillLiteral γ l) (fillClause γ c) (fillClause γ r)
+  pub at-fill : {i : ℕ} {l : Literal} {c r : Clause} → At i l c r → At i (fillLiteral γ l) (fillClause γ c) (fillClause γ r)
   unfolding fillClause
   at-fill At.here = At.here
   at-fill (At.there p) = At.there (at-fill p)

@@ -1,6 +1,10 @@
+pub mod Both
 pub mod Checks
 pub mod Table
 pub mod Steps
 pub mod Filling
 pub mod Finding
 pub mod Instances
+pub mod Ground
+pub mod Soundness
+pub mod Entailment
