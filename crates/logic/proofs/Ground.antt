@@ -47,17 +47,17 @@ unfolding eachClause
 at-each p s (At.here {l = lit g x} {c = c}) w = both (eachAtom p s x) true (left (eachAtom p s x) (eachClause p s c) w) tt
 at-each p s (At.there {m = lit g x} {c = c} h) w = at-each p s h (right (eachAtom p s x) (eachClause p s c) w)
 
+pub entry-each : (p : ℕ → Bool) (s : ℕ → ℕ → Bool) (d : Term) (ts : Terms) (n : ℕ) → T (eachTerm p s d) → T (eachTerms p s ts) → T (eachTerm p s (entryOr d ts n))
+unfolding entryOr eachTerm
+entry-each p s d nil n w v = w
+entry-each p s d (cons t ts) zero w v = left (eachTerm p s t) (eachTerms p s ts) v
+entry-each p s d (cons t ts) (suc n) w v = entry-each p s d ts n w (right (eachTerm p s t) (eachTerms p s ts) v)
+
 -- The entries of a list over the table, filled by ground terms, are ground, and so is what stands past its end.
 module _ (table : List ℕ) (γ : Substitution) (g : Grounds table γ) where
   pub ground-fill : (t : Term) → T (overTerm table t) → T (groundTerm table (fill γ t))
   unfolding overTerm groundTerm Grounds
   ground-fill t = each-fill any never (declares table) γ (λ n w. g n) t
-
-  entry-each : (p : ℕ → Bool) (s : ℕ → ℕ → Bool) (d : Term) (ts : Terms) (n : ℕ) → T (eachTerm p s d) → T (eachTerms p s ts) → T (eachTerm p s (entryOr d ts n))
-  unfolding entryOr eachTerm
-  entry-each p s d nil n w v = w
-  entry-each p s d (cons t ts) zero w v = left (eachTerm p s t) (eachTerms p s ts) v
-  entry-each p s d (cons t ts) (suc n) w v = entry-each p s d ts n w (right (eachTerm p s t) (eachTerms p s ts) v)
 
   pub entries-ground : (ts : Terms) → T (eachTerms any (declares table) ts) → Grounds table (compose γ (entries ts))
   unfolding Grounds compose entries overTerm eachTerm

@@ -8,3 +8,5 @@ pub mod Instances
 pub mod Ground
 pub mod Soundness
 pub mod Entailment
+pub mod Agreeing
+pub mod Written

@@ -1,20 +1,16 @@
 -- Derivations, which have no lists, and their written form.
 use Prim.Native.Nat.{ℕ}
-use mathlib.Core.Bool.{Bool, true, not, cond}
+use mathlib.Core.Bool.{Bool, not}
 use mathlib.Core.List.{List, [], _∷_, _++_, map}
 use mathlib.Core.Path.{_≡_}
-use lib.Dec.{T, eqb}
+use lib.Dec.{T}
 use Rattle.logic.specs.declared.Rule.{Rule}
 use Rattle.logic.specs.Syntax.{Term, Terms, nil, Clause, Step, Line, sym, input, by}
 use Rattle.logic.specs.Terms.{count}
-use Rattle.logic.specs.Each.{eachClause, eachTerms, any, declares, overTerm, overClause, width}
+use Rattle.logic.specs.Each.{occursIn, eachTerms, any, declares, overTerm, overClause, width}
 use Rattle.logic.specs.Fill.{Substitution, entries}
 use Rattle.logic.specs.Rules.{uses, Agreement, Holds, Parent, Infers}
 use Rattle.logic.specs.Judge.{parentClause, parentsBelow, unusedZero, firstLength}
-
--- Variable n stands in clause c.
-unfoldable pub occursIn : ℕ → Clause → Bool
-occursIn n c = not (eachClause (λ m. not (eqb m n)) (λ f k. true) c)
 
 -- One inference: its rule and numbers (unused ones 0), how B's variables are renamed, the one substitution (refl's T is its
 -- term for variable 0), and the clause that follows.

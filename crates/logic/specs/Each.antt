@@ -75,3 +75,17 @@ unfoldable mutual
 unfoldable pub width : Clause → ℕ
 width [] = zero
 width (lit g x ∷ c) = max (termsWidth (termsOf x)) (width c)
+
+-- Variable n stands in a term, in a clause.
+unfoldable mutual
+  pub occursTerm : ℕ → Term → Bool
+  occursTerm n (var m) = eqb m n
+  occursTerm n (app f ts) = occursTerms n ts
+
+  pub occursTerms : ℕ → Terms → Bool
+  occursTerms n nil = false
+  occursTerms n (cons t ts) = occursTerm n t || occursTerms n ts
+
+unfoldable pub occursIn : ℕ → Clause → Bool
+occursIn n [] = false
+occursIn n (lit g x ∷ c) = occursTerms n (termsOf x) || occursIn n c
