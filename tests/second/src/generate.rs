@@ -1,0 +1,105 @@
+//! A seeded generator of test texts.
+//!
+//! Each seed gives one text, always the same: a valid derivation, a text at
+//! or just past a limit, or a valid text that was damaged.
+
+pub mod damage;
+pub mod derive;
+pub mod limits;
+pub mod model;
+pub mod random;
+pub mod unify;
+
+use damage::{damage_bytes, damage_structure};
+use derive::{derive, Derivation, Style};
+use limits::limit_text;
+use model::{write_lines, RULES};
+use random::Random;
+
+use crate::{Verdict, MAX_BYTES, MAX_LINES};
+
+/// A generated text, with its verdict where the generator knows it.
+#[derive(Clone, Debug)]
+pub struct Sample {
+    pub text: Vec<u8>,
+    pub expected: Option<Verdict>,
+}
+
+/// The text of a seed.
+pub fn generate(seed: u64) -> Vec<u8> {
+    sample(seed).text
+}
+
+/// The text of a seed, with its verdict where that is known.
+pub fn sample(seed: u64) -> Sample {
+    let random = &mut Random::new(seed);
+    match random.below(100) {
+        0..=29 => valid(random),
+        30..=39 => {
+            let kind = random.below(limits::KINDS);
+            let past = random.percent(50);
+            limit_text(random, kind, past)
+        }
+        40..=52 => {
+            let mut text = valid(random).text;
+            damage_bytes(random, &mut text);
+            unknown(text)
+        }
+        _ => {
+            let rule = *random.pick(&RULES);
+            let mut rules = some_rules(random, 3);
+            rules.push(rule);
+            let style = Style::small(random);
+            let derivation = derive(random, style, &rules);
+            unknown(damage_structure(random, &derivation, rule))
+        }
+    }
+}
+
+/// A valid text, with its verdict.
+pub fn valid_sample(seed: u64) -> Sample {
+    valid(&mut Random::new(seed))
+}
+
+fn valid(random: &mut Random) -> Sample {
+    let style = if random.percent(3) {
+        Style::large(random)
+    } else {
+        Style::small(random)
+    };
+    let rules = some_rules(random, 4);
+    let mut derivation = derive(random, style, &rules);
+    let mut text = write_lines(&derivation.lines());
+    while text.len() > MAX_BYTES || derivation.lines().len() > MAX_LINES {
+        let kept = derivation.steps.len() * 9 / 10;
+        derivation.steps.truncate(kept);
+        text = write_lines(&derivation.lines());
+    }
+    Sample {
+        text,
+        expected: Some(verdict(&derivation)),
+    }
+}
+
+fn unknown(text: Vec<u8>) -> Sample {
+    Sample {
+        text,
+        expected: None,
+    }
+}
+
+/// Up to `most` random rules.
+fn some_rules(random: &mut Random, most: usize) -> Vec<&'static str> {
+    (0..random.between(1, most))
+        .map(|_| *random.pick(&RULES))
+        .collect()
+}
+
+/// The verdict on a derivation's written form.
+fn verdict(derivation: &Derivation) -> Verdict {
+    let count = derivation.count();
+    match derivation.first_empty() {
+        Some(first) => Verdict::Refuted { count, first },
+        None => Verdict::Open { count },
+    }
+}

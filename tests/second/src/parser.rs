@@ -1,0 +1,234 @@
+//! One line of text to its syntax (check 2, "The line isn't a form").
+//!
+//! Every function takes the bytes it has read off the front of the cursor.
+//! `None` means that the line isn't a form.
+
+use crate::syntax::{Arrow, Clause, Head, Line, Node, Rule, Step, Substitution};
+use crate::MAX_DEPTH;
+
+/// Reads a line without its line end: "One form a line, nested brackets".
+pub(crate) fn parse_line(line: &[u8]) -> Option<Line> {
+    let mut cursor = Cursor { rest: line };
+    let form = cursor.line()?;
+    cursor.rest.is_empty().then_some(form)
+}
+
+/// The bytes of the line that are still to be read.
+struct Cursor<'a> {
+    rest: &'a [u8],
+}
+
+impl<'a> Cursor<'a> {
+    /// Reads exactly these bytes. "One space between items, none inside a
+    /// bracket's ends" holds because every space is asked for by name.
+    fn expect(&mut self, bytes: &[u8]) -> Option<()> {
+        self.rest = self.rest.strip_prefix(bytes)?;
+        Some(())
+    }
+
+    /// Reads these bytes if they come next.
+    fn accept(&mut self, bytes: &[u8]) -> bool {
+        self.expect(bytes).is_some()
+    }
+
+    /// Reads the longest run of bytes of one kind.
+    fn take_while(&mut self, kind: impl Fn(&u8) -> bool) -> &'a [u8] {
+        let end = self.rest.iter().position(|byte| !kind(byte));
+        let (run, rest) = self.rest.split_at(end.unwrap_or(self.rest.len()));
+        self.rest = rest;
+        run
+    }
+
+    /// Reads a word of small letters, perhaps empty.
+    fn word(&mut self) -> &'a [u8] {
+        self.take_while(u8::is_ascii_lowercase)
+    }
+
+    /// "A number N is decimal, 0 to 65,535, without leading zeros."
+    fn number(&mut self) -> Option<u16> {
+        match self.take_while(u8::is_ascii_digit) {
+            [] | [b'0', _, ..] => None,
+            digits => digits.iter().try_fold(0u16, |value, digit| {
+                value.checked_mul(10)?.checked_add((digit - b'0').into())
+            }),
+        }
+    }
+
+    /// One of the three forms of a line.
+    fn line(&mut self) -> Option<Line> {
+        self.expect(b"(")?;
+        let word = self.word();
+        self.expect(b" ")?;
+        let line = match word {
+            b"sym" => Line::Symbol(self.number()?),
+            b"in" => Line::Input(self.clause()?),
+            b"by" => Line::Step(self.step()?),
+            _ => return None,
+        };
+        self.expect(b")")?;
+        Some(line)
+    }
+
+    /// "`(by RULE A I B J K LET LET CLAUSE)`: a step; the claim begins
+    /// wherever the second list ends", from the rule's word on.
+    fn step(&mut self) -> Option<Step> {
+        let rule = rule(self.word())?;
+        let mut numbers = [0; 5];
+        for number in &mut numbers {
+            self.expect(b" ")?;
+            *number = self.number()?;
+        }
+        self.expect(b" ")?;
+        let first = self.list()?;
+        self.expect(b" ")?;
+        let second = self.list()?;
+        self.expect(b" ")?;
+        let claim = self.clause()?;
+        Some(Step {
+            rule,
+            numbers,
+            lists: [first, second],
+            claim,
+        })
+    }
+
+    /// "LET is `(let TERM ...)`, perhaps `(let)`."
+    fn list(&mut self) -> Option<Substitution> {
+        let mut list = Substitution::default();
+        self.expect(b"(let")?;
+        while self.accept(b" ") {
+            self.term(list.nodes_mut(), MAX_DEPTH)?;
+            list.end_term();
+        }
+        self.expect(b")")?;
+        Some(list)
+    }
+
+    /// "CLAUSE is `(or LIT ...)`, perhaps `(or)`. LIT is `(+ ATOM)` or
+    /// `(- ATOM)`."
+    fn clause(&mut self) -> Option<Clause> {
+        let mut clause = Clause::default();
+        self.expect(b"(or")?;
+        while self.accept(b" ") {
+            let positive = self.accept(b"(+ ");
+            if !positive {
+                self.expect(b"(- ")?;
+            }
+            let head = self.atom(clause.nodes_mut())?;
+            clause.end_literal(positive, head);
+            self.expect(b")")?;
+        }
+        self.expect(b")")?;
+        Some(clause)
+    }
+
+    /// "ATOM: `(eq T U)` equality; `(mem T U)` T : U; `(sub T U)` T :: U;
+    /// `(obj T)` T[]; `(ARROW O M (T ...) R)`". The terms go to `nodes`.
+    fn atom(&mut self, nodes: &mut Vec<Node>) -> Option<Head> {
+        self.expect(b"(")?;
+        let head = match self.word() {
+            b"eq" => self.spaced_terms(nodes, 2, Head::Equality),
+            b"mem" => self.spaced_terms(nodes, 2, Head::Membership),
+            b"sub" => self.spaced_terms(nodes, 2, Head::Subclass),
+            b"obj" => self.spaced_terms(nodes, 1, Head::Object),
+            word => self.method(nodes, arrow(word)?),
+        }?;
+        self.expect(b")")?;
+        Some(head)
+    }
+
+    /// The terms of an atom that isn't an arrow, a space before each.
+    fn spaced_terms(&mut self, nodes: &mut Vec<Node>, count: usize, head: Head) -> Option<Head> {
+        for _ in 0..count {
+            self.expect(b" ")?;
+            self.term(nodes, MAX_DEPTH)?;
+        }
+        Some(head)
+    }
+
+    /// "object O, method M, arguments (perhaps `()`), result R", from the
+    /// space before the object on.
+    fn method(&mut self, nodes: &mut Vec<Node>, arrow: Arrow) -> Option<Head> {
+        self.expect(b" ")?;
+        self.term(nodes, MAX_DEPTH)?;
+        self.expect(b" ")?;
+        self.term(nodes, MAX_DEPTH)?;
+        self.expect(b" (")?;
+        let mut arguments: u16 = 0;
+        if !self.accept(b")") {
+            loop {
+                self.term(nodes, MAX_DEPTH)?;
+                arguments = arguments.checked_add(1)?;
+                if self.accept(b")") {
+                    break;
+                }
+                self.expect(b" ")?;
+            }
+        }
+        self.expect(b" ")?;
+        let has_result = !(arrow.allows_none() && self.accept(b"none"));
+        if has_result {
+            self.term(nodes, MAX_DEPTH)?;
+        }
+        Some(Head::Method {
+            arrow,
+            arguments,
+            has_result,
+        })
+    }
+
+    /// "A term is `(v N)`, a variable, or `(f N TERM ...)`, symbol N applied.
+    /// Terms nest at most 16 terms deep, the outermost counting as 1; a
+    /// deeper one isn't a form." The term goes to `nodes`; `depth` is the
+    /// number of levels left, this term's included.
+    fn term(&mut self, nodes: &mut Vec<Node>, depth: usize) -> Option<()> {
+        let below = depth.checked_sub(1)?;
+        if self.accept(b"(v ") {
+            nodes.push(Node::Variable(self.number()?));
+        } else {
+            self.expect(b"(f ")?;
+            let symbol = self.number()?;
+            let place = nodes.len();
+            nodes.push(Node::Application { symbol, arity: 0 });
+            let mut arity: u16 = 0;
+            while self.accept(b" ") {
+                self.term(nodes, below)?;
+                arity = arity.checked_add(1)?;
+            }
+            nodes[place] = Node::Application { symbol, arity };
+        }
+        self.expect(b")")
+    }
+}
+
+/// "RULE is a word of the rule table below, any other isn't a form".
+fn rule(word: &[u8]) -> Option<Rule> {
+    Some(match word {
+        b"refl" => Rule::Reflexivity,
+        b"res" => Rule::Resolution,
+        b"fac" => Rule::Factoring,
+        b"par" => Rule::Paramodulation,
+        b"acy" => Rule::Acyclicity,
+        b"tra" => Rule::Transitivity,
+        b"inc" => Rule::Inclusion,
+        b"inh" => Rule::SignatureInheritance,
+        b"inp" => Rule::InputRestriction,
+        b"out" => Rule::OutputRelaxation,
+        b"sca" => Rule::Scalarity,
+        b"eli" => Rule::Elimination,
+        _ => return None,
+    })
+}
+
+/// The word of an arrow.
+fn arrow(word: &[u8]) -> Option<Arrow> {
+    Some(match word {
+        b"sv" => Arrow::ScalarValue,
+        b"si" => Arrow::InheritableScalar,
+        b"mv" => Arrow::SetValue,
+        b"mi" => Arrow::InheritableSet,
+        b"st" => Arrow::ScalarSignature,
+        b"mt" => Arrow::SetSignature,
+        _ => return None,
+    })
+}

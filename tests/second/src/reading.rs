@@ -1,0 +1,133 @@
+//! What is held from line to line, and checks 2 to 6.
+
+use crate::parser::parse_line;
+use crate::rules::check_step;
+use crate::syntax::{Clause, Head, Line, Node, Step};
+use crate::{
+    Check, Verdict, MAX_ARGUMENTS, MAX_ARITY, MAX_LIST_TERMS, MAX_LITERALS, MAX_SYMBOLS,
+    MAX_VARIABLE,
+};
+
+/// "After each line the reading holds the argument counts of up to 256
+/// symbols and the place of every clause." Here the clauses themselves are
+/// held, so that no line is read twice.
+#[derive(Default)]
+pub(crate) struct Reading {
+    /// The number of terms that each declared symbol takes.
+    arities: Vec<u16>,
+    /// The clauses of all in and by lines so far, by number.
+    clauses: Vec<Clause>,
+    /// Whether there has been a by line.
+    steps_begun: bool,
+    /// The number of the first empty clause.
+    first_empty: Option<usize>,
+}
+
+impl Reading {
+    /// Runs checks 2 to 11 on the next line, given with its line end, and
+    /// takes the line in if it passes them all. The checks are done in the
+    /// order of their numbers, each over the whole line.
+    pub(crate) fn read_line(&mut self, line: &[u8]) -> Result<(), Check> {
+        // "Bytes after the last line end form one more line, which isn't a
+        // form."
+        let form = line.strip_suffix(b"\n").and_then(parse_line);
+        match form.ok_or(Check::Form)? {
+            Line::Symbol(arity) => self.declare_symbol(arity),
+            Line::Input(clause) => self.take_input(clause),
+            Line::Step(step) => self.take_step(step),
+        }
+    }
+
+    /// The verdict after all lines have passed.
+    pub(crate) fn verdict(&self) -> Verdict {
+        let count = self.clauses.len();
+        if self.require_constant().is_err() {
+            return Check::Constant.refuse(0);
+        }
+        match self.first_empty {
+            Some(first) => Verdict::Refuted { count, first },
+            None => Verdict::Open { count },
+        }
+    }
+
+    /// "`(sym K)`: the next symbol of the symbol table, counted from 0, takes
+    /// K terms."
+    fn declare_symbol(&mut self, arity: u16) -> Result<(), Check> {
+        Check::Order.require(self.clauses.is_empty())?;
+        Check::Limit.require(self.arities.len() < MAX_SYMBOLS && arity <= MAX_ARITY)?;
+        self.arities.push(arity);
+        Ok(())
+    }
+
+    /// "`(in CLAUSE)`: an input clause."
+    fn take_input(&mut self, clause: Clause) -> Result<(), Check> {
+        Check::Order.require(!self.steps_begun)?;
+        self.require_constant()?;
+        Check::Limit.require(clause_within_limits(&clause))?;
+        Check::Symbol.require(self.symbols_fit(clause.nodes()))?;
+        self.add_clause(clause);
+        Ok(())
+    }
+
+    /// A by line.
+    fn take_step(&mut self, step: Step) -> Result<(), Check> {
+        let Step { lists, claim, .. } = &step;
+        self.require_constant()?;
+        Check::Limit.require(
+            clause_within_limits(claim)
+                && lists.iter().all(|list| {
+                    list.len() <= MAX_LIST_TERMS && variables_within_limit(list.nodes())
+                }),
+        )?;
+        Check::Symbol.require(
+            self.symbols_fit(claim.nodes())
+                && lists.iter().all(|list| self.symbols_fit(list.nodes())),
+        )?;
+        check_step(&step, &self.clauses)?;
+        self.steps_begun = true;
+        self.add_clause(step.claim);
+        Ok(())
+    }
+
+    /// "Clauses (in and by lines) are numbered from 0".
+    fn add_clause(&mut self, clause: Clause) {
+        if clause.is_empty() && self.first_empty.is_none() {
+            self.first_empty = Some(self.clauses.len());
+        }
+        self.clauses.push(clause);
+    }
+
+    /// Check 4: some symbol of K = 0 is declared.
+    fn require_constant(&self) -> Result<(), Check> {
+        Check::Constant.require(self.arities.contains(&0))
+    }
+
+    /// Check 6: each applied symbol is declared and has its number of terms.
+    fn symbols_fit(&self, nodes: &[Node]) -> bool {
+        nodes.iter().all(|node| match *node {
+            Node::Variable(_) => true,
+            Node::Application { symbol, arity } => {
+                self.arities.get(usize::from(symbol)) == Some(&arity)
+            }
+        })
+    }
+}
+
+/// "8 method arguments, 32 literals a clause, variables 0 to 31".
+fn clause_within_limits(clause: &Clause) -> bool {
+    let arguments_fit = |head| match head {
+        Head::Method { arguments, .. } => arguments <= MAX_ARGUMENTS,
+        _ => true,
+    };
+    clause.len() <= MAX_LITERALS
+        && clause.literals().all(|literal| arguments_fit(literal.head))
+        && variables_within_limit(clause.nodes())
+}
+
+/// "variables 0 to 31".
+fn variables_within_limit(nodes: &[Node]) -> bool {
+    nodes.iter().all(|node| match *node {
+        Node::Variable(number) => number <= MAX_VARIABLE,
+        Node::Application { .. } => true,
+    })
+}

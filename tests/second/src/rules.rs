@@ -1,0 +1,426 @@
+//! The twelve rules (section "The rules"), checks 7 to 11.
+//!
+//! Nothing is copied to be filled: a filled part of a clause is walked node
+//! by node, with the list's terms put in for variables on the way.
+
+use std::ops::Range;
+
+use crate::syntax::{Clause, Head, Literal, Node, Rule, Step, Substitution};
+use crate::Check;
+
+/// Runs checks 7 to 11 on a step; `clauses` are those before it, so that
+/// their number is the step's own.
+pub(crate) fn check_step(step: &Step, clauses: &[Clause]) -> Result<(), Check> {
+    let used = uses(step.rule);
+    let [a_used, _, b_used, _, _] = used;
+    let [a, i, b, j, k] = step.numbers.map(usize::from);
+    let [first_list, second_list] = &step.lists;
+
+    // An unused parent is taken to be the empty clause.
+    let none = Clause::default();
+    let parent = |used: bool, number: usize| {
+        if used {
+            clauses.get(number).ok_or(Check::Parent)
+        } else {
+            Ok(&none)
+        }
+    };
+    let first = Parent::new(parent(a_used, a)?, first_list);
+    let second = Parent::new(parent(b_used, b)?, second_list);
+
+    // "Unused numbers among A I B J K are 0".
+    for (used, number) in used.into_iter().zip(step.numbers) {
+        Check::Unused.require(used || number == 0)?;
+    }
+    // "A used parent's list has exactly its highest variable plus 1 terms (0
+    // without variables); an unused one's has none, save for refl."
+    let first_length = match step.rule {
+        Rule::Reflexivity => 1,
+        _ => first.clause.variable_bound(),
+    };
+    Check::Unused.require(first_list.len() == first_length)?;
+    Check::Unused.require(second_list.len() == second.clause.variable_bound())?;
+
+    let conclusion = conclude(step.rule, first, second, [i, j, k])?;
+
+    // "The claim, all of it filled, is the new literal if any, A's other
+    // literals, then B's other literals, in order."
+    let expected = (conclusion.new.into_iter())
+        .chain(first.without(conclusion.dropped))
+        .chain(second.without(j));
+    Check::Claim.require(is_claim(&step.claim, expected))
+}
+
+/// "a second table says which numbers each of the twelve rules uses": for
+/// each of A I B J K, whether the rule uses it.
+fn uses(rule: Rule) -> [bool; 5] {
+    const NO: bool = false;
+    const YES: bool = true;
+    match rule {
+        Rule::Reflexivity => [NO, NO, NO, NO, NO],
+        Rule::Resolution => [YES, YES, YES, YES, NO],
+        Rule::Factoring => [YES, YES, NO, YES, NO],
+        Rule::Paramodulation => [YES, YES, YES, YES, YES],
+        Rule::Acyclicity => [YES, YES, YES, YES, NO],
+        Rule::Transitivity => [YES, YES, YES, YES, NO],
+        Rule::Inclusion => [YES, YES, YES, YES, NO],
+        Rule::SignatureInheritance => [YES, YES, YES, YES, NO],
+        Rule::InputRestriction => [YES, YES, YES, YES, YES],
+        Rule::OutputRelaxation => [YES, YES, YES, YES, NO],
+        Rule::Scalarity => [YES, YES, YES, YES, NO],
+        Rule::Elimination => [YES, YES, NO, NO, NO],
+    }
+}
+
+/// What a rule makes of its parents, besides the literals that stay.
+struct Conclusion<'a> {
+    /// The new literal, if the rule has one.
+    new: Option<FilledLiteral<'a>>,
+    /// The position of the literal of A that doesn't stay. Of B it is always
+    /// the one at J.
+    dropped: usize,
+}
+
+/// Checks 9 and 10: one arm for each row of the rule table. In each arm the
+/// whole shape is tested before the agreement.
+fn conclude<'a>(
+    rule: Rule,
+    a: Parent<'a>,
+    b: Parent<'a>,
+    [i, j, k]: [usize; 3],
+) -> Result<Conclusion<'a>, Check> {
+    let mut dropped = i;
+    let new = match rule {
+        // refl: "no parent; first list one term T", new "+ sub(T,T)".
+        Rule::Reflexivity => {
+            let term = Filled {
+                nodes: &[Node::Variable(0)],
+                list: a.list,
+            };
+            Some(FilledLiteral::pair(Head::Subclass, term, term))
+        }
+        // res: "- L at I, + L' at J", "L' covers L".
+        Rule::Resolution => {
+            let (first, second) = (a.premise(i)?, b.premise(j)?);
+            Check::Shape.require(!first.literal.positive && second.literal.positive)?;
+            Check::Agreement.require(second.covers(first))?;
+            None
+        }
+        // fac: "A only; I, J differ, same sign", "literal J covers literal
+        // I". "For fac it is A without literal J (positive) or without
+        // literal I (negative)."
+        Rule::Factoring => {
+            let (first, second) = (a.premise(i)?, a.premise(j)?);
+            let positive = first.literal.positive;
+            Check::Shape.require(i != j && positive == second.literal.positive)?;
+            Check::Agreement.require(second.covers(first))?;
+            dropped = if positive { j } else { i };
+            None
+        }
+        // par: "L at I, term occurrence K in it; + eq(S,U) at J", "occurrence
+        // = S", new "L with that occurrence replaced by U".
+        Rule::Paramodulation => {
+            let first = a.premise(i)?;
+            let occurrence = first.literal.occurrence(k).ok_or(Check::Shape)?;
+            let [from, to] = b.premise(j)?.positive_pair(Head::Equality)?;
+            Some(first.replace(occurrence, from, to)?)
+        }
+        // acy: "+ sub(P,Q), + sub(Q',P')", "P=P', Q=Q'", new "+ eq(P,Q)".
+        Rule::Acyclicity => {
+            let [p, q] = a.premise(i)?.positive_pair(Head::Subclass)?;
+            let [other_q, other_p] = b.premise(j)?.positive_pair(Head::Subclass)?;
+            Check::Agreement.require(p.equals(other_p) && q.equals(other_q))?;
+            Some(FilledLiteral::pair(Head::Equality, p, q))
+        }
+        // tra: "+ sub(P,Q), + sub(Q',R)", "Q=Q'", new "+ sub(P,R)".
+        Rule::Transitivity => Some(chain(Head::Subclass, a.premise(i)?, b.premise(j)?)?),
+        // inc: "+ mem(P,Q), + sub(Q',R)", "Q=Q'", new "+ mem(P,R)".
+        Rule::Inclusion => Some(chain(Head::Membership, a.premise(i)?, b.premise(j)?)?),
+        // inh: "+ st or mt with object P and a term result, + sub(S,P')",
+        // "P=P'", new "first, object S".
+        Rule::SignatureInheritance => {
+            let first = a.premise(i)?;
+            first.signature_arguments()?;
+            let [lower, upper] = b.premise(j)?.positive_pair(Head::Subclass)?;
+            Some(first.replace(first.place(OBJECT)?, upper, lower)?)
+        }
+        // inp: "+ st or mt with a term result, argument K, + sub(S,Q)",
+        // "argument K = Q", new "first, argument K is S".
+        Rule::InputRestriction => {
+            let first = a.premise(i)?;
+            let arguments = first.signature_arguments()?;
+            Check::Shape.require(k < arguments)?;
+            let [lower, upper] = b.premise(j)?.positive_pair(Head::Subclass)?;
+            Some(first.replace(first.place(ARGUMENTS + k)?, upper, lower)?)
+        }
+        // out: "+ st or mt with a term result R, + sub(R',S)", "R=R'", new
+        // "first, result S".
+        Rule::OutputRelaxation => {
+            let first = a.premise(i)?;
+            let arguments = first.signature_arguments()?;
+            let [lower, upper] = b.premise(j)?.positive_pair(Head::Subclass)?;
+            Some(first.replace(first.place(ARGUMENTS + arguments)?, lower, upper)?)
+        }
+        // sca: "two + sv or si atoms, results R, R'", "same arrow, argument
+        // count, object, method, arguments", new "+ eq(R,R')".
+        Rule::Scalarity => {
+            let (first, second) = (a.premise(i)?, b.premise(j)?);
+            let (one, other) = (first.scalar()?, second.scalar()?);
+            Check::Agreement.require(
+                first.literal.head == second.literal.head && one.call.equals(other.call),
+            )?;
+            Some(FilledLiteral::pair(
+                Head::Equality,
+                one.result,
+                other.result,
+            ))
+        }
+        // eli: "A only; - obj(P) at I".
+        Rule::Elimination => {
+            let literal = a.premise(i)?.literal;
+            Check::Shape.require(!literal.positive && literal.head == Head::Object)?;
+            None
+        }
+    };
+    Ok(Conclusion { new, dropped })
+}
+
+/// The place of an arrow atom's object among its terms.
+const OBJECT: usize = 0;
+/// The place of an arrow atom's first argument, after object and method; the
+/// result follows the last argument.
+const ARGUMENTS: usize = 2;
+
+/// The common part of tra and inc: P below Q, and Q below R by sub.
+fn chain<'a>(
+    head: Head,
+    first: Premise<'a>,
+    second: Premise<'a>,
+) -> Result<FilledLiteral<'a>, Check> {
+    let [p, q] = first.positive_pair(head)?;
+    let [other_q, r] = second.positive_pair(Head::Subclass)?;
+    Check::Agreement.require(q.equals(other_q))?;
+    Ok(FilledLiteral::pair(head, p, r))
+}
+
+/// Check 11: whether the claim's literals are the expected ones, in order.
+fn is_claim<'a>(claim: &Clause, mut expected: impl Iterator<Item = FilledLiteral<'a>>) -> bool {
+    claim
+        .literals()
+        .all(|literal| expected.next().is_some_and(|other| other.equals(literal)))
+        && expected.next().is_none()
+}
+
+/// A parent clause with the list that fills it.
+#[derive(Clone, Copy)]
+struct Parent<'a> {
+    clause: &'a Clause,
+    list: &'a Substitution,
+}
+
+impl<'a> Parent<'a> {
+    fn new(clause: &'a Clause, list: &'a Substitution) -> Self {
+        Parent { clause, list }
+    }
+
+    /// The literal at a position that the step names; a position that the
+    /// clause lacks fails check 9.
+    fn premise(self, position: usize) -> Result<Premise<'a>, Check> {
+        let literal = self.clause.literal(position).ok_or(Check::Shape)?;
+        Ok(Premise {
+            literal,
+            list: self.list,
+        })
+    }
+
+    /// The other literals, filled: all but the one at a position.
+    fn without(self, position: usize) -> impl Iterator<Item = FilledLiteral<'a>> {
+        let literals = self.clause.literals().enumerate();
+        let others = literals.filter(move |&(place, _)| place != position);
+        others.map(move |(_, literal)| FilledLiteral::whole(literal, self.list))
+    }
+}
+
+/// Terms of a parent, filled: "variable N of A becomes term N of the first
+/// list, of B term N of the second".
+#[derive(Clone, Copy)]
+struct Filled<'a> {
+    nodes: &'a [Node],
+    list: &'a Substitution,
+}
+
+impl<'a> Filled<'a> {
+    /// The nodes in preorder once every variable is filled.
+    fn walk(self) -> impl Iterator<Item = &'a Node> {
+        (self.nodes.iter()).flat_map(move |node| self.list.fill(node))
+    }
+
+    /// Whether the two are the same terms once filled.
+    fn equals(self, other: Filled<'_>) -> bool {
+        self.walk().eq(other.walk())
+    }
+}
+
+/// A literal of a parent that the step names, with the list that fills it.
+#[derive(Clone, Copy)]
+struct Premise<'a> {
+    literal: Literal<'a>,
+    list: &'a Substitution,
+}
+
+/// An sv or si atom's object, method and arguments, and its result.
+struct Scalar<'a> {
+    call: Filled<'a>,
+    result: Filled<'a>,
+}
+
+impl<'a> Premise<'a> {
+    /// Some of the literal's nodes, filled.
+    fn part(self, range: Range<usize>) -> Filled<'a> {
+        Filled {
+            nodes: &self.literal.nodes[range],
+            list: self.list,
+        }
+    }
+
+    /// All of the literal's nodes, filled.
+    fn terms(self) -> Filled<'a> {
+        self.part(0..self.literal.nodes.len())
+    }
+
+    /// The nodes of the atom's term at a place.
+    fn place(self, index: usize) -> Result<Range<usize>, Check> {
+        self.literal.place(index).ok_or(Check::Shape)
+    }
+
+    /// The two terms of a literal that must be positive and of this head, one
+    /// of eq, mem and sub.
+    fn positive_pair(self, head: Head) -> Result<[Filled<'a>; 2], Check> {
+        Check::Shape.require(self.literal.positive && self.literal.head == head)?;
+        Ok([self.part(self.place(0)?), self.part(self.place(1)?)])
+    }
+
+    /// The number of arguments of a literal that must be "+ st or mt with a
+    /// term result".
+    fn signature_arguments(self) -> Result<usize, Check> {
+        match self.literal.head {
+            Head::Method {
+                arrow,
+                arguments,
+                has_result: true,
+            } if self.literal.positive && arrow.is_signature() => Ok(arguments.into()),
+            _ => Err(Check::Shape),
+        }
+    }
+
+    /// The parts of a literal that must be "+ sv or si".
+    fn scalar(self) -> Result<Scalar<'a>, Check> {
+        match self.literal.head {
+            Head::Method {
+                arrow, arguments, ..
+            } if self.literal.positive && arrow.is_scalar() => {
+                let result = self.place(ARGUMENTS + usize::from(arguments))?;
+                Ok(Scalar {
+                    call: self.part(0..result.start),
+                    result: self.part(result),
+                })
+            }
+            _ => Err(Check::Shape),
+        }
+    }
+
+    /// "X *covers* Y if they are equal, or Y is X with none in place of a
+    /// term result." Only the atoms are compared.
+    fn covers(self, other: Premise<'_>) -> bool {
+        if self.literal.head == other.literal.head {
+            return self.terms().equals(other.terms());
+        }
+        let Head::Method {
+            arrow,
+            arguments,
+            has_result: true,
+        } = self.literal.head
+        else {
+            return false;
+        };
+        let emptied = Head::Method {
+            arrow,
+            arguments,
+            has_result: false,
+        };
+        // The result is the last term, so its start is where the terms of an
+        // atom with none end.
+        let result = self.literal.place(ARGUMENTS + usize::from(arguments));
+        other.literal.head == emptied
+            && result.is_some_and(|result| self.part(0..result.start).equals(other.terms()))
+    }
+
+    /// The literal, filled, with one of its terms replaced. The agreement is
+    /// that this term, filled, is `from`.
+    fn replace(
+        self,
+        range: Range<usize>,
+        from: Filled<'a>,
+        to: Filled<'a>,
+    ) -> Result<FilledLiteral<'a>, Check> {
+        Check::Agreement.require(self.part(range.clone()).equals(from))?;
+        Ok(FilledLiteral {
+            positive: self.literal.positive,
+            head: self.literal.head,
+            terms: [
+                self.part(0..range.start),
+                to,
+                self.part(range.end..self.literal.nodes.len()),
+            ],
+        })
+    }
+}
+
+/// A literal of the conclusion: its terms are those of three parts, one after
+/// another, each filled by its own list.
+struct FilledLiteral<'a> {
+    positive: bool,
+    head: Head,
+    terms: [Filled<'a>; 3],
+}
+
+impl<'a> FilledLiteral<'a> {
+    /// A literal of a parent as it is, filled.
+    fn whole(literal: Literal<'a>, list: &'a Substitution) -> Self {
+        let none = Filled { nodes: &[], list };
+        FilledLiteral {
+            positive: literal.positive,
+            head: literal.head,
+            terms: [
+                Filled {
+                    nodes: literal.nodes,
+                    list,
+                },
+                none,
+                none,
+            ],
+        }
+    }
+
+    /// A new positive literal of two terms.
+    fn pair(head: Head, left: Filled<'a>, right: Filled<'a>) -> Self {
+        let none = Filled {
+            nodes: &[],
+            list: right.list,
+        };
+        FilledLiteral {
+            positive: true,
+            head,
+            terms: [left, right, none],
+        }
+    }
+
+    /// Whether this is the literal as the claim writes it.
+    fn equals(&self, literal: Literal<'_>) -> bool {
+        self.positive == literal.positive
+            && self.head == literal.head
+            && (self.terms.iter())
+                .flat_map(|part| part.walk())
+                .eq(literal.nodes)
+    }
+}

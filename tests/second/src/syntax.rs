@@ -1,0 +1,300 @@
+//! Terms, literals, clauses and lines, as kept in memory (section "The
+//! text").
+//!
+//! Terms are kept flat, in preorder: a term stands before its parts, and the
+//! parts follow from left to right. Each application carries the number of
+//! its parts, so a sequence of nodes can be cut into terms in one way only.
+//! Two sequences of terms are therefore equal exactly when their nodes are.
+
+use std::ops::Range;
+
+/// One variable or applied symbol of a term.
+#[derive(Clone, Copy, Debug, PartialEq, Eq)]
+pub enum Node {
+    /// "`(v N)`, a variable".
+    Variable(u16),
+    /// "`(f N TERM ...)`, symbol N applied"; `arity` terms follow.
+    Application { symbol: u16, arity: u16 },
+}
+
+impl Node {
+    /// The number of terms directly below this node.
+    fn parts(self) -> usize {
+        match self {
+            Node::Variable(_) => 0,
+            Node::Application { arity, .. } => arity.into(),
+        }
+    }
+}
+
+/// The number of nodes of the first term in a preorder sequence.
+fn first_term_len(nodes: &[Node]) -> usize {
+    let mut pending = 1;
+    for (index, node) in nodes.iter().enumerate() {
+        pending += node.parts();
+        pending -= 1;
+        if pending == 0 {
+            return index + 1;
+        }
+    }
+    nodes.len()
+}
+
+/// "ARROW: sv scalar value, si inheritable scalar, mv set value, mi
+/// inheritable set, st scalar signature, mt set signature."
+#[derive(Clone, Copy, Debug, PartialEq, Eq)]
+pub enum Arrow {
+    /// `sv`
+    ScalarValue,
+    /// `si`
+    InheritableScalar,
+    /// `mv`
+    SetValue,
+    /// `mi`
+    InheritableSet,
+    /// `st`
+    ScalarSignature,
+    /// `mt`
+    SetSignature,
+}
+
+impl Arrow {
+    /// The two scalar arrows sv and si, the subject of rule sca.
+    pub fn is_scalar(self) -> bool {
+        matches!(self, Arrow::ScalarValue | Arrow::InheritableScalar)
+    }
+
+    /// The two signature arrows st and mt, the subject of inh, inp and out.
+    pub fn is_signature(self) -> bool {
+        matches!(self, Arrow::ScalarSignature | Arrow::SetSignature)
+    }
+
+    /// "R is a term; for mv, mi, st, mt it may be the word `none`".
+    pub fn allows_none(self) -> bool {
+        !self.is_scalar()
+    }
+}
+
+/// All of an atom but its terms. Atoms of equal head have equally many terms
+/// in the same places.
+#[derive(Clone, Copy, Debug, PartialEq, Eq)]
+pub enum Head {
+    /// `(eq T U)`
+    Equality,
+    /// `(mem T U)`
+    Membership,
+    /// `(sub T U)`
+    Subclass,
+    /// `(obj T)`
+    Object,
+    /// `(ARROW O M (T ...) R)`: the terms are object, method, arguments and,
+    /// unless the result is `none`, the result.
+    Method {
+        arrow: Arrow,
+        arguments: u16,
+        has_result: bool,
+    },
+}
+
+/// "LIT is `(+ ATOM)` or `(- ATOM)`", as a view of the clause that holds it.
+#[derive(Clone, Copy, Debug, PartialEq, Eq)]
+pub struct Literal<'a> {
+    pub positive: bool,
+    pub head: Head,
+    /// The terms of the atom, one after another.
+    pub nodes: &'a [Node],
+}
+
+impl Literal<'_> {
+    /// The nodes of the term that starts at a node.
+    ///
+    /// "Occurrences are counted from 0 in the literal at I before filling,
+    /// left to right, a term before its parts, variables included": that is
+    /// the preorder, so occurrence K starts at node K.
+    pub fn occurrence(&self, start: usize) -> Option<Range<usize>> {
+        let tail = self.nodes.get(start..).filter(|tail| !tail.is_empty())?;
+        Some(start..start + first_term_len(tail))
+    }
+
+    /// The nodes of the atom's term at a place, counted from 0: object,
+    /// method, arguments, result for an arrow.
+    pub fn place(&self, index: usize) -> Option<Range<usize>> {
+        let mut start = 0;
+        for _ in 0..index {
+            start = self.occurrence(start)?.end;
+        }
+        self.occurrence(start)
+    }
+}
+
+/// The part of a literal that a clause stores besides its nodes.
+#[derive(Clone, Debug)]
+struct StoredLiteral {
+    positive: bool,
+    head: Head,
+    nodes: Range<usize>,
+}
+
+/// "CLAUSE is `(or LIT ...)`, perhaps `(or)`."
+#[derive(Clone, Debug, Default)]
+pub struct Clause {
+    nodes: Vec<Node>,
+    literals: Vec<StoredLiteral>,
+    variable_bound: usize,
+}
+
+impl Clause {
+    /// The number of literals.
+    pub fn len(&self) -> usize {
+        self.literals.len()
+    }
+
+    /// Whether this is the empty clause.
+    pub fn is_empty(&self) -> bool {
+        self.literals.is_empty()
+    }
+
+    /// The literal at a position, counted from 0.
+    pub fn literal(&self, position: usize) -> Option<Literal<'_>> {
+        self.literals.get(position).map(|stored| self.view(stored))
+    }
+
+    /// All literals in order.
+    pub fn literals(&self) -> impl Iterator<Item = Literal<'_>> {
+        self.literals.iter().map(|stored| self.view(stored))
+    }
+
+    /// The nodes of all literals in order.
+    pub fn nodes(&self) -> &[Node] {
+        &self.nodes
+    }
+
+    /// Its "highest variable plus 1 terms (0 without variables)".
+    pub fn variable_bound(&self) -> usize {
+        self.variable_bound
+    }
+
+    /// The place where the terms of the next literal are to be written.
+    pub(crate) fn nodes_mut(&mut self) -> &mut Vec<Node> {
+        &mut self.nodes
+    }
+
+    /// Makes all nodes written since the last literal into a literal.
+    pub(crate) fn end_literal(&mut self, positive: bool, head: Head) {
+        let start = self.literals.last().map_or(0, |last| last.nodes.end);
+        for node in &self.nodes[start..] {
+            if let Node::Variable(number) = *node {
+                self.variable_bound = self.variable_bound.max(usize::from(number) + 1);
+            }
+        }
+        self.literals.push(StoredLiteral {
+            positive,
+            head,
+            nodes: start..self.nodes.len(),
+        });
+    }
+
+    fn view(&self, stored: &StoredLiteral) -> Literal<'_> {
+        Literal {
+            positive: stored.positive,
+            head: stored.head,
+            nodes: &self.nodes[stored.nodes.clone()],
+        }
+    }
+}
+
+/// "LET is `(let TERM ...)`, perhaps `(let)`": the substitution for the
+/// variables of one parent. Term N stands for variable N.
+#[derive(Clone, Debug, Default)]
+pub struct Substitution {
+    nodes: Vec<Node>,
+    terms: Vec<Range<usize>>,
+}
+
+impl Substitution {
+    /// The number of terms.
+    pub fn len(&self) -> usize {
+        self.terms.len()
+    }
+
+    /// Whether the list has no term.
+    pub fn is_empty(&self) -> bool {
+        self.terms.is_empty()
+    }
+
+    /// The nodes of all terms in order.
+    pub fn nodes(&self) -> &[Node] {
+        &self.nodes
+    }
+
+    /// "variable N of A becomes term N of the first list": the nodes that
+    /// stand for a node once it is filled.
+    pub fn fill<'a>(&'a self, node: &'a Node) -> &'a [Node] {
+        match *node {
+            Node::Variable(number) => &self.nodes[self.terms[usize::from(number)].clone()],
+            Node::Application { .. } => std::slice::from_ref(node),
+        }
+    }
+
+    /// The place where the next term is to be written.
+    pub(crate) fn nodes_mut(&mut self) -> &mut Vec<Node> {
+        &mut self.nodes
+    }
+
+    /// Makes all nodes written since the last term into a term.
+    pub(crate) fn end_term(&mut self) {
+        let start = self.terms.last().map_or(0, |last| last.end);
+        self.terms.push(start..self.nodes.len());
+    }
+}
+
+/// A word of the rule table (section "The rules").
+#[derive(Clone, Copy, Debug, PartialEq, Eq)]
+pub enum Rule {
+    /// `refl`: reflexivity of sub.
+    Reflexivity,
+    /// `res`: resolution.
+    Resolution,
+    /// `fac`: factoring.
+    Factoring,
+    /// `par`: paramodulation.
+    Paramodulation,
+    /// `acy`: acyclicity of sub.
+    Acyclicity,
+    /// `tra`: transitivity of sub.
+    Transitivity,
+    /// `inc`: class inclusion.
+    Inclusion,
+    /// `inh`: inheritance of a signature by a subclass.
+    SignatureInheritance,
+    /// `inp`: restriction of a signature's argument.
+    InputRestriction,
+    /// `out`: relaxation of a signature's result.
+    OutputRelaxation,
+    /// `sca`: scalarity.
+    Scalarity,
+    /// `eli`: elimination of a negative obj literal.
+    Elimination,
+}
+
+/// "`(by RULE A I B J K LET LET CLAUSE)`: a step".
+#[derive(Clone, Debug)]
+pub struct Step {
+    pub rule: Rule,
+    /// A I B J K, in that order.
+    pub numbers: [u16; 5],
+    /// The lists for A and for B.
+    pub lists: [Substitution; 2],
+    pub claim: Clause,
+}
+
+/// A line that is a form.
+#[derive(Clone, Debug)]
+pub enum Line {
+    /// "`(sym K)`: the next symbol of the symbol table ... takes K terms."
+    Symbol(u16),
+    /// "`(in CLAUSE)`: an input clause."
+    Input(Clause),
+    /// A step.
+    Step(Step),
+}

@@ -1,0 +1,135 @@
+//! The generator, and the checker over what it makes.
+
+use std::collections::BTreeMap;
+
+use second::generate::limits::{limit_text, KINDS};
+use second::generate::model::{uses_first, RULES};
+use second::generate::random::Random;
+use second::generate::{generate, sample, valid_sample};
+use second::{check, Verdict};
+
+#[test]
+fn the_same_seed_gives_the_same_text() {
+    for seed in 0..200 {
+        assert_eq!(generate(seed), generate(seed));
+    }
+    assert_ne!(generate(1), generate(2));
+}
+
+#[test]
+fn valid_texts_get_their_verdict() {
+    for seed in 0..3_000 {
+        let sample = valid_sample(seed);
+        assert_eq!(Some(check(&sample.text)), sample.expected, "seed {seed}");
+        let accepted = !matches!(sample.expected, Some(Verdict::Refused { .. }));
+        assert!(accepted, "seed {seed}");
+    }
+}
+
+#[test]
+fn limit_texts_get_their_verdict() {
+    for kind in 0..KINDS {
+        for past in [false, true] {
+            for seed in 0..10 {
+                let sample = limit_text(&mut Random::new(seed), kind, past);
+                assert_eq!(
+                    Some(check(&sample.text)),
+                    sample.expected,
+                    "kind {kind}, past {past}, seed {seed}"
+                );
+            }
+        }
+    }
+}
+
+#[test]
+fn every_verdict_and_every_rule_come_up() {
+    let mut verdicts: BTreeMap<String, usize> = BTreeMap::new();
+    let mut steps: BTreeMap<(&str, u8), usize> = BTreeMap::new();
+    let count = 6_000;
+    for seed in 0..count {
+        let sample = sample(seed);
+        let verdict = check(&sample.text);
+        if let Some(expected) = sample.expected {
+            assert_eq!(verdict, expected, "seed {seed}");
+        }
+        let (name, refused) = match verdict {
+            Verdict::Refuted { .. } => ("refuted".to_string(), None),
+            Verdict::Open { .. } => ("open".to_string(), None),
+            Verdict::Refused { number, line } => {
+                (format!("refused {number}"), Some((number, line)))
+            }
+        };
+        *verdicts.entry(name).or_default() += 1;
+        let lines = sample.text.split(|&byte| byte == b'\n');
+        for (index, line) in lines.enumerate() {
+            let number = match refused {
+                Some((_, line)) if index + 1 > line => break,
+                Some((number, line)) if index + 1 == line => number,
+                _ => 0,
+            };
+            for rule in RULES {
+                if line.starts_with(format!("(by {rule} ").as_bytes()) {
+                    *steps.entry((rule, number)).or_default() += 1;
+                }
+            }
+        }
+    }
+    for number in 1..=11 {
+        let share = verdicts.get(&format!("refused {number}")).unwrap_or(&0);
+        let least = if number == 1 {
+            10
+        } else {
+            count as usize / 100
+        };
+        assert!(*share >= least, "refused {number} only {share} times");
+    }
+    assert!(verdicts["open"] >= 500 && verdicts["refuted"] >= 500);
+    for rule in RULES {
+        for number in [0, 7, 8, 9, 10, 11] {
+            let possible = match number {
+                7 | 9 => uses_first(rule),
+                10 => uses_first(rule) && rule != "eli",
+                _ => true,
+            };
+            let times = steps.get(&(rule, number)).unwrap_or(&0);
+            assert_eq!(*times > 0, possible, "{rule} with {number}: {times}");
+        }
+    }
+}
+
+#[test]
+fn random_bytes_get_a_verdict() {
+    let mut random = Random::new(99);
+    for _ in 0..2_000 {
+        let len = random.below(200);
+        let text: Vec<u8> = (0..len)
+            .map(|_| match random.percent(20) {
+                true => random.next_u64() as u8,
+                false => *random.pick(b"()+- 0123456789fvinorbysubmemeqobjletnone\n"),
+            })
+            .collect();
+        check(&text);
+    }
+}
+
+#[test]
+fn cut_texts_get_a_verdict() {
+    // Each text cut at each place, so that every part of a form is missing
+    // once.
+    for seed in 0..30 {
+        let text = valid_sample(seed).text;
+        if text.len() > 3_000 {
+            continue;
+        }
+        for end in 0..text.len() {
+            match check(&text[..end]) {
+                Verdict::Refused { number, line } => assert!(
+                    (number, line) == (4, 0) || (number == 2 && text[end - 1] != b'\n'),
+                    "seed {seed}, end {end}: {number} {line}"
+                ),
+                _ => assert_eq!(text[end - 1], b'\n'),
+            }
+        }
+    }
+}
