@@ -51,7 +51,7 @@ module _ (σ : Substitution) (u : Term) where
 
 -- One occurrence replaced keeps the number of terms, and can be put back.
 module _ {a b : Term} where
-  replaced-count : {ts us : Terms} → ReplacedIn a b ts us → count us ≡ count ts
+  pub replaced-count : {ts us : Terms} → ReplacedIn a b ts us → count us ≡ count ts
   unfolding count
   replaced-count (ReplacedIn.now p) = refl
   replaced-count (ReplacedIn.later p) = ap suc (replaced-count p)

@@ -10,3 +10,4 @@ pub mod Soundness
 pub mod Entailment
 pub mod Agreeing
 pub mod Written
+pub mod Every
