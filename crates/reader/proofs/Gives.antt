@@ -28,15 +28,16 @@ pub weaken : {A : Type 0} {Q R : A → List ℕ → Type 0} {p : Parsed A} → G
 weaken nothing k = nothing
 weaken (gives {a} {rest} q) k = gives (k a rest q)
 
-pub onCond : {A : Type 0} {Q : A → List ℕ → Type 0} {p q : Parsed A} (b : Bool) → (T b → Gives Q p) → (T (not b) → Gives Q q) → Gives Q (cond b p q)
-onCond true f g = f tt
-onCond false f g = g tt
+-- By cases of a test.
+pub onTest : {A : Type 0} (P : A → Type 0) (b : Bool) {x y : A} → (T b → P x) → (T (not b) → P y) → P (cond b x y)
+onTest P true f g = f tt
+onTest P false f g = g tt
 
 pub strip-gives : (w bs : List ℕ) → Gives (λ _ rest. bs ≡ w ++ rest) (strip w bs)
 unfolding strip
 strip-gives [] bs = gives refl
 strip-gives (x ∷ w) [] = nothing
-strip-gives (x ∷ w) (b ∷ bs) = onCond (eqb x b) (λ t. weaken (strip-gives w bs) (λ _ rest e. rw (eqb→eq x b t, e))) (λ _. nothing)
+strip-gives (x ∷ w) (b ∷ bs) = onTest (Gives _) (eqb x b) (λ t. weaken (strip-gives w bs) (λ _ rest e. rw (eqb→eq x b t, e))) (λ _. nothing)
 
 -- So at all bytes: R of them, of the value and of the bytes after it.
 pub record Meets {A : Type 0} (R : List ℕ → A → List ℕ → Type 0) (read : Reader A) : Type 0 where
@@ -49,6 +50,9 @@ Sound put formed read = Meets (λ bs a rest. (bs ≡ put a rest) × formed a) re
 -- What follows a value is judged at the bytes written for it.
 pub seq : {A B : Type 0} {put : A → Writer} {formed : A → Type 0} {read : Reader A} {f : A → Reader B} {R : List ℕ → B → List ℕ → Type 0} → Sound put formed read → ((a : A) → formed a → Meets (λ bs. R (put a bs)) (f a)) → Meets R (read >>= f)
 seq s k = record { at = λ bs. bind (s .at bs) (λ a rest q. rw (q .0) (k a (q .1) .at rest)) }
+
+pub finally : {A : Type 0} {put : A → Writer} {formed : A → Type 0} {read : Reader A} {R : List ℕ → A → List ℕ → Type 0} → Sound put formed read → ((a : A) → formed a → (rest : List ℕ) → R (put a rest) a rest) → Meets R read
+finally s k = record { at = λ bs. weaken (s .at bs) (λ a rest q. rw (q .0) (k a (q .1) rest)) }
 
 pub skipped : {B : Type 0} {q : Reader B} {R : List ℕ → B → List ℕ → Type 0} (w : String) → Meets (λ bs. R (word w bs)) q → Meets R (skip w >> q)
 skipped w k = record { at = λ bs. bind (strip-gives (bytes w) bs) (λ _ rest e. rw e (k .at rest)) }

@@ -1,2 +1,5 @@
 pub mod Examples
 pub mod Gives
+pub mod Number
+pub mod Items
+pub mod Sound

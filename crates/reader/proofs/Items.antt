@@ -1,0 +1,51 @@
+-- Items after one space each, up to the closing bracket: terms and literals alike.
+use Prim.Native.Nat.{ℕ, zero, suc, _≤_, max}
+use mathlib.Core.Path.{_≡_, refl, sym, _∙_, ap}
+use mathlib.Core.Bool.{Bool, true, false, _&&_}
+use mathlib.Core.List.{List, [], _∷_}
+use mathlib.Core.Logic.{_↔_}
+use native.Mathlib.Omega.{arith}
+use lib.ListN.{length}
+use lib.Dec.{T, leb, leb→le, le→leb}
+use Rattle.logic.specs.Syntax.{Term, Terms, nil, cons, Literal, Clause}
+use Rattle.reader.specs.Write.{Writer, _∘_, word, putTerm, putTerms, putLiteral, putLiterals}
+use Rattle.reader.specs.Form.{depthOf, depthOfs, numbered, numbereds, formedTerm, formedTerms, formedLiteral, formedClause}
+use Rattle.reader.specs.Read.{Reader, readItems, readMany}
+use Rattle.reader.proofs.Gives.{nothing, Sound, seq, returned, none, branch, oneOf-meets}
+use Rattle.reader.proofs.Number.{T-and}
+
+-- S lists items of A, written by puts, formed as G says.
+pub record Items {A S : Type 0} (empty : S) (more : A → S → S) (put : A → Writer) (puts : S → Writer) (F : A → Type 0) (G : S → Type 0) : Type 1 where
+  pub put-empty : (rest : List ℕ) → puts empty rest ≡ rest
+  pub put-more : (a : A) (s : S) (rest : List ℕ) → puts (more a s) rest ≡ word " " (put a (puts s rest))
+  pub formed-empty : G empty
+  pub formed-more : (a : A) (s : S) → G (more a s) ↔ F a × G s
+  pub induct : (P : S → Type 0) → P empty → ((a : A) (s : S) → P s → P (more a s)) → (s : S) → P s
+
+terms-formed : (d : ℕ) (t : Term) (ts : Terms) → T (formedTerms d (cons t ts)) ↔ T (formedTerm d t) × T (formedTerms d ts)
+unfolding formedTerms formedTerm numbereds depthOfs
+terms-formed d t ts =
+    ( λ h. let (m, p) = simp T-and at h in simp T-and ((omega (arith, leb→le, le→leb), p .0), (omega (arith, leb→le, le→leb), p .1))
+    , λ h. let (x, y) = simp T-and at h in simp T-and (omega (arith, leb→le, le→leb), (x .1, y .1)) )
+
+terms-induct : (P : Terms → Type 0) → P nil → ((t : Term) (ts : Terms) → P ts → P (cons t ts)) → (ts : Terms) → P ts
+terms-induct P e m nil = e
+terms-induct P e m (cons t ts) = m t ts (terms-induct P e m ts)
+
+pub terms : (d : ℕ) → Items nil cons putTerm putTerms (λ t. T (formedTerm d t)) (λ ts. T (formedTerms d ts))
+unfolding putTerms formedTerms numbereds depthOfs
+terms d = record { put-empty = λ _. refl; put-more = λ _ _ _. refl; formed-empty = simp T-and (omega (arith, le→leb), tt); formed-more = terms-formed d; induct = terms-induct }
+
+pub literals : (d : ℕ) → Items [] _∷_ putLiteral putLiterals (λ l. T (formedLiteral d l)) (λ c. T (formedClause d c))
+unfolding putLiterals formedClause
+literals d = record { put-empty = λ _. refl; put-more = λ _ _ _. refl; formed-empty = tt; formed-more = λ l c. T-and (formedLiteral d l) (formedClause d c); induct = λ P e m c. elim c [ [] ↦ e | l ∷ (ls → h) ↦ m l ls h ] }
+
+module _ {A S : Type 0} {empty : S} {more : A → S → S} {put : A → Writer} {puts : S → Writer} {F : A → Type 0} {G : S → Type 0} (I : Items empty more put puts F G) {read : Reader A} (sound : Sound put F read) where
+  pub items-sound : (k : ℕ) → Sound (λ s. puts s ∘ word ")") G (readItems empty more read k)
+  unfolding readItems
+  items-sound zero = record { at = λ bs. nothing }
+  items-sound (suc k) = oneOf-meets (branch (returned λ rest. (sym (I .put-empty _), I .formed-empty)) (branch (seq sound λ a f. seq (items-sound k) λ s g. returned λ rest. (sym (I .put-more a s _), I .formed-more a s .1 (f, g))) none))
+
+  pub many-sound : Sound (λ s. puts s ∘ word ")") G (readMany empty more read)
+  unfolding readMany
+  many-sound = record { at = λ bs. items-sound (length bs) .at bs }
