@@ -77,3 +77,21 @@ oneOf-meets {R} (branch {w} {read} {others} k o) = record { at = λ bs. go bs (s
     go : (bs : List ℕ) {p : Parsed (Unit {0})} → Gives (λ _ rest. bs ≡ word w rest) p → Gives (R bs) (oneOf others bs) → Gives (R bs) (orElse p read (oneOf others) bs)
     go bs nothing q = q
     go bs (gives {rest} e) q = rw e (k .at rest)
+
+-- Two tables with the same words agree at bytes if their branches agree after the word there.
+pub data Agree {A : Type 0} (bs : List ℕ) : List (Branch A) → List (Branch A) → Type 0 where
+  none : Agree bs [] []
+  branch : {w : String} {r q : Reader A} {table also : List (Branch A)} → ((rest : List ℕ) → bs ≡ word w rest → r rest ≡ q rest) → Agree bs table also → Agree bs ((w ⇒ r) ∷ table) ((w ⇒ q) ∷ also)
+
+pub oneOf-cong : {A : Type 0} {bs : List ℕ} {table also : List (Branch A)} → Agree bs table also → oneOf table bs ≡ oneOf also bs
+unfolding oneOf
+oneOf-cong Agree.none = refl
+oneOf-cong {bs} (Agree.branch {w} {r} {q} {table} {also} h a) = go (strip-gives (bytes w) bs) (oneOf-cong a)
+  where
+    go : {p : Parsed (Unit {0})} → Gives (λ _ rest. bs ≡ word w rest) p → oneOf table bs ≡ oneOf also bs → orElse p r (oneOf table) bs ≡ orElse p q (oneOf also) bs
+    go nothing e = e
+    go (gives {rest} e) _ = h rest e
+
+pub after-cong : {A B : Type 0} {Q : A → List ℕ → Type 0} {p : Parsed A} {f g : A → Reader B} → Gives Q p → ((a : A) (rest : List ℕ) → Q a rest → f a rest ≡ g a rest) → after p f ≡ after p g
+after-cong nothing h = refl
+after-cong (gives {a} {rest} q) h = h a rest q

@@ -1,18 +1,19 @@
 -- Items after one space each, up to the closing bracket: terms and literals alike.
-use Prim.Native.Nat.{ℕ, zero, suc, _≤_, max}
+use Prim.Native.Nat.{ℕ, zero, suc, _≤_, _<_, max}
 use mathlib.Core.Path.{_≡_, refl, sym, _∙_, ap}
 use mathlib.Core.Bool.{Bool, true, false, _&&_}
 use mathlib.Core.List.{List, [], _∷_}
 use mathlib.Core.Logic.{_↔_}
 use native.Mathlib.Omega.{arith}
 use lib.ListN.{length}
-use lib.Dec.{T, leb, leb→le, le→leb}
+use lib.Dec.{T, eqb, leb, leb→le, le→leb}
 use Rattle.logic.specs.Syntax.{Term, Terms, nil, cons, Literal, Clause}
 use Rattle.reader.specs.Write.{Writer, _∘_, word, putTerm, putTerms, putLiteral, putLiterals}
 use Rattle.reader.specs.Form.{depthOf, depthOfs, numbered, numbereds, formedTerm, formedTerms, formedLiteral, formedClause}
-use Rattle.reader.specs.Read.{Reader, readItems, readMany}
-use Rattle.reader.proofs.Gives.{nothing, Sound, seq, returned, none, branch, oneOf-meets}
+use Rattle.reader.specs.Read.{Parsed, bad, got, Reader, after, return, orElse, strip, oneOf, readNext, readItems, readMany}
+use Rattle.reader.proofs.Gives.{Gives, nothing, gives, weaken, Sound, seq, returned, none, branch, oneOf-meets, Agree, oneOf-cong, after-cong}
 use Rattle.reader.proofs.Number.{T-and}
+use Rattle.reader.proofs.Plain.{Plain, put-grows}
 
 -- S lists items of A, written by puts, formed as G says.
 pub record Items {A S : Type 0} (empty : S) (more : A → S → S) (put : A → Writer) (puts : S → Writer) (F : A → Type 0) (G : S → Type 0) : Type 1 where
@@ -42,10 +43,36 @@ literals d = record { put-empty = λ _. refl; put-more = λ _ _ _. refl; formed-
 
 module _ {A S : Type 0} {empty : S} {more : A → S → S} {put : A → Writer} {puts : S → Writer} {F : A → Type 0} {G : S → Type 0} (I : Items empty more put puts F G) {read : Reader A} (sound : Sound put F read) where
   pub items-sound : (k : ℕ) → Sound (λ s. puts s ∘ word ")") G (readItems empty more read k)
-  unfolding readItems
+  unfolding readItems readNext
   items-sound zero = record { at = λ bs. nothing }
   items-sound (suc k) = oneOf-meets (branch (returned λ rest. (sym (I .put-empty _), I .formed-empty)) (branch (seq sound λ a f. seq (items-sound k) λ s g. returned λ rest. (sym (I .put-more a s _), I .formed-more a s .1 (f, g))) none))
 
   pub many-sound : Sound (λ s. puts s ∘ word ")") G (readMany empty more read)
   unfolding readMany
   many-sound = record { at = λ bs. items-sound (length bs) .at bs }
+
+  module _ (plain : (a : A) → Plain (put a)) where
+    shrinks : (bs : List ℕ) → Gives (λ _ rest. length rest ≤ length bs) (read bs)
+    shrinks bs = weaken (sound .at bs) (λ a rest q. rw (q .0) (put-grows (plain a) rest))
+
+    -- The others are read at fewer bytes.
+    next-cong : (others also : Reader S) (bs : List ℕ) → ((rest : List ℕ) → length rest < length bs → others rest ≡ also rest) → readNext empty more read others bs ≡ readNext empty more read also bs
+    unfolding readNext
+    next-cong others also bs h =
+        oneOf-cong (Agree.branch (λ _ _. refl) (Agree.branch (λ mid e. after-cong (shrinks mid) (λ a rest l. rw (h rest (rw e (omega arith))))) Agree.none))
+
+    -- Any bound that is at least the bytes left reads the same.
+    pub items-fuel : (j k : ℕ) (bs : List ℕ) → length bs ≤ j → length bs ≤ k → readItems empty more read j bs ≡ readItems empty more read k bs
+    unfolding readItems readNext oneOf strip
+    items-fuel zero zero bs g h = refl
+    items-fuel zero (suc k) [] g h = refl
+    items-fuel zero (suc k) (b ∷ bs) g h = absurd (omega arith)
+    items-fuel (suc j) zero [] g h = refl
+    items-fuel (suc j) zero (b ∷ bs) g h = absurd (omega arith)
+    items-fuel (suc j) (suc k) bs g h = next-cong _ _ bs (λ rest l. items-fuel j k rest (omega arith) (omega arith))
+
+    pub many-step : (bs : List ℕ) → readMany empty more read bs ≡ readNext empty more read (readMany empty more read) bs
+    unfolding readItems readMany
+    many-step bs =
+        items-fuel (length bs) (suc (length bs)) bs (omega arith) (omega arith)
+        ∙ next-cong _ _ bs (λ rest l. items-fuel (length bs) (length rest) rest (omega arith) (omega arith))

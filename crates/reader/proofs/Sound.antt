@@ -12,8 +12,8 @@ use Rattle.logic.specs.Syntax.{Term, var, app, Terms, nil, cons, Result, value,
 use Rattle.reader.specs.Words.{signWord, signs, linkWord, links, arrowWord, arrows, ruleWord, rules}
 use Rattle.reader.specs.Write.{_∘_, word, putTerm, putTerms, putArguments, putResult, putAtom, putLiteral, putLiterals, putClause, putLet, putStep, putLine, writeLine}
 use Rattle.reader.specs.Form.{formedNumber, depthOf, numbered, formedTerm, formedTerms, formedResult, formedAtom, formedLiteral, formedClause, formedStep, formedLine}
-use Rattle.reader.specs.Read.{return, oneOf, each, Reading, form, noForm, readMany, readVariable, readApplied, readTerm, readArguments, readResult, readLink, readObject, readMethod, readAtom, readSign, readLiteral, readClause, readLet, readRule, readSym, readInput, readStep, readForm, whole, readLine}
-use Rattle.reader.proofs.Gives.{nothing, onTest, Meets, Sound, seq, finally, skipped, returned, none as noBranch, branch, branches, oneOf-meets}
+use Rattle.reader.specs.Read.{Parsed, bad, got, return, oneOf, each, Reading, form, noForm, readMany, readVariable, readApplied, readTerm, readArguments, readResult, readLink, readObject, readMethod, readAtom, readSign, readLiteral, readClause, readLet, readRule, readSym, readInput, readStep, readForm, whole, readLine}
+use Rattle.reader.proofs.Gives.{nothing, given, onTest, Meets, Sound, seq, finally, skipped, returned, none as noBranch, branch, branches, oneOf-meets}
 use Rattle.reader.proofs.Number.{T-and, number-sound}
 use Rattle.reader.proofs.Items.{terms, literals, many-sound}
 
@@ -76,3 +76,13 @@ form-sound d =
     oneOf-meets (branch (seq number-sound λ k f. skipped ")" (returned λ rest. (refl, f)))
       (branch (seq (clause-sound d) λ c f. skipped ")" (returned λ rest. (refl, f)))
       (branch (seq (table-sound ruleWord rules) λ r _. skipped " " (seq number-sound λ a f₁. skipped " " (seq number-sound λ i f₂. skipped " " (seq number-sound λ b f₃. skipped " " (seq number-sound λ j f₄. skipped " " (seq number-sound λ k f₅. skipped " " (seq (let-sound d) λ first f₆. skipped " " (seq (let-sound d) λ second f₇. skipped " " (seq (clause-sound d) λ claim f₈. skipped ")" (returned λ rest. (refl, simp T-and (((((((f₁, f₂), f₃), f₄), f₅), f₆), f₇), f₈)))))))))))) noBranch)))
+
+whole-got : (p : Parsed Line) (l : Line) → whole p ≡ form l → p ≡ got l []
+unfolding whole
+whole-got bad l e = cc
+whole-got (got k []) l e = cc
+whole-got (got k (b ∷ bs)) l e = cc
+
+pub line-sound : (d : ℕ) (bs : List ℕ) (l : Line) → readLine d bs ≡ form l → (bs ≡ writeLine l) × T (formedLine d l)
+unfolding readLine writeLine
+line-sound d bs l e = given (form-sound d .at bs) (whole-got (readForm d bs) l e)

@@ -88,14 +88,18 @@ readNumber (b ∷ bs) =
     let onward = readDigits (b - 48) bs in
     cond (digit b) onward bad
 
--- Items, each after one space, up to the closing bracket. The number bounds the items; the bytes left are enough.
-unfoldable pub readItems : {A S : Type 0} → S → (A → S → S) → Reader A → ℕ → Reader S
-readItems empty more read zero bs = bad
-readItems empty more read (suc k) bs =
+-- Items, each after one space: the closing bracket, or one item and the others.
+unfoldable pub readNext : {A S : Type 0} → S → (A → S → S) → Reader A → Reader S → Reader S
+readNext empty more read others =
     oneOf ((")" ⇒ return empty) ∷ (" " ⇒ (do
       a ← read
-      s ← readItems empty more read k
-      return (more a s))) ∷ []) bs
+      s ← others
+      return (more a s))) ∷ [])
+
+-- The number bounds the items; the bytes left are enough.
+unfoldable pub readItems : {A S : Type 0} → S → (A → S → S) → Reader A → ℕ → Reader S
+readItems empty more read zero bs = bad
+readItems empty more read (suc k) bs = readNext empty more read (readItems empty more read k) bs
 
 unfoldable pub readMany : {A S : Type 0} → S → (A → S → S) → Reader A → Reader S
 readMany empty more read bs = readItems empty more read (length bs) bs
