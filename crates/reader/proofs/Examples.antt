@@ -11,7 +11,7 @@ use Rattle.logic.specs.Syntax.{Term, var, app, Terms, nil, cons, Atom, link, li
 use Rattle.reader.specs.Words.{bytes}
 use Rattle.reader.specs.Write.{putDigits, putNumber, putTerm, putArguments, putResult, putAtom, putLiteral, putLiterals, putClause, putLet, putStep, putLine, writeLine, writeLines}
 use Rattle.reader.specs.Form.{depthOf, numbered, formedTerm}
-use Rattle.reader.specs.Read.{Parsed, bad, got, Reading, form, noForm, strip, oneOf, digit, goesOn, readDigits, readNumber, readNext, readItems, readMany, readVariable, readApplied, readTerm, readArguments, readResult, readLink, readObject, readMethod, readAtom, readSign, readLiteral, readClause, readLet, readRule, readSym, readInput, readStep, readForm, whole, readLine}
+use Rattle.reader.specs.Read.{Parsed, bad, got, Reading, form, noForm, strip, oneOf, digit, goesOn, readDigits, readNumber, readNext, readItems, readMany, readVariable, readApplied, readTerm, readArguments, readResult, readLink, readObject, readMethod, readKind, readAtom, readSign, readLiteral, readClause, readLet, readRule, readSym, readInput, readStep, readForm, whole, readLine}
 use Rattle.reader.specs.Split.{push, split, readRaw}
 
 abbrev text : List ℕ
@@ -32,7 +32,7 @@ lines =
     ∷ []
 
 C1-read : map (readRaw 16) (split text) ≡ map form lines
-unfolding push split readRaw readLine readForm whole readSym readInput readStep readClause readLet readRule readLiteral readSign readAtom readLink readObject readMethod readArguments readResult readTerm readApplied readVariable readMany readItems readNext readNumber readDigits goesOn digit oneOf strip mayBeNone
+unfolding push split readRaw readLine readForm whole readSym readInput readStep readClause readLet readRule readLiteral readSign readAtom readKind readLink readObject readMethod readArguments readResult readTerm readApplied readVariable readMany readItems readNext readNumber readDigits goesOn digit oneOf strip mayBeNone
 C1-read = refl
 
 C1-written : writeLines lines ≡ text

@@ -47,6 +47,10 @@ pub record Meets {A : Type 0} (R : List ℕ → A → List ℕ → Type 0) (read
 abbrev pub Sound : {A : Type 0} → (A → Writer) → (A → Type 0) → Reader A → Type 0
 Sound put formed read = Meets (λ bs a rest. (bs ≡ put a rest) × formed a) read
 
+-- Write then read: the reader gives back each formed value, and the bytes after it.
+abbrev pub Complete : {A : Type 0} → (A → Writer) → (A → Type 0) → Reader A → Type 0
+Complete {A} put formed read = (a : A) → formed a → (rest : List ℕ) → read (put a rest) ≡ got a rest
+
 -- What follows a value is judged at the bytes written for it.
 pub seq : {A B : Type 0} {put : A → Writer} {formed : A → Type 0} {read : Reader A} {f : A → Reader B} {R : List ℕ → B → List ℕ → Type 0} → Sound put formed read → ((a : A) → formed a → Meets (λ bs. R (put a bs)) (f a)) → Meets R (read >>= f)
 seq s k = record { at = λ bs. bind (s .at bs) (λ a rest q. rw (q .0) (k a (q .1) .at rest)) }

@@ -6,13 +6,13 @@ use mathlib.Core.List.{List, [], _∷_}
 use mathlib.Core.Logic.{_↔_}
 use native.Mathlib.Omega.{arith}
 use lib.ListN.{length}
-use lib.Dec.{T, eqb, leb, leb→le, le→leb}
+use lib.Dec.{T, eqb, le→leb}
 use Rattle.logic.specs.Syntax.{Term, Terms, nil, cons, Literal, Clause}
 use Rattle.reader.specs.Write.{Writer, _∘_, word, putTerm, putTerms, putLiteral, putLiterals}
-use Rattle.reader.specs.Form.{depthOf, depthOfs, numbered, numbereds, formedTerm, formedTerms, formedLiteral, formedClause}
+use Rattle.reader.specs.Form.{depthOfs, numbereds, formedTerm, formedTerms, formedLiteral, formedClause}
 use Rattle.reader.specs.Read.{Parsed, bad, got, Reader, after, return, orElse, strip, oneOf, readNext, readItems, readMany}
-use Rattle.reader.proofs.Gives.{Gives, nothing, gives, weaken, Sound, seq, returned, none, branch, oneOf-meets, Agree, oneOf-cong, after-cong}
-use Rattle.reader.proofs.Number.{T-and}
+use Rattle.reader.proofs.Gives.{Gives, nothing, gives, weaken, Sound, Complete, seq, returned, none, branch, oneOf-meets, Agree, oneOf-cong, after-cong}
+use Rattle.reader.proofs.Formed.{T-and, terms-formed}
 use Rattle.reader.proofs.Plain.{Plain, put-grows}
 
 -- S lists items of A, written by puts, formed as G says.
@@ -22,12 +22,6 @@ pub record Items {A S : Type 0} (empty : S) (more : A → S → S) (put : A → 
   pub formed-empty : G empty
   pub formed-more : (a : A) (s : S) → G (more a s) ↔ F a × G s
   pub induct : (P : S → Type 0) → P empty → ((a : A) (s : S) → P s → P (more a s)) → (s : S) → P s
-
-terms-formed : (d : ℕ) (t : Term) (ts : Terms) → T (formedTerms d (cons t ts)) ↔ T (formedTerm d t) × T (formedTerms d ts)
-unfolding formedTerms formedTerm numbereds depthOfs
-terms-formed d t ts =
-    ( λ h. let (m, p) = simp T-and at h in simp T-and ((omega (arith, leb→le, le→leb), p .0), (omega (arith, leb→le, le→leb), p .1))
-    , λ h. let (x, y) = simp T-and at h in simp T-and (omega (arith, leb→le, le→leb), (x .1, y .1)) )
 
 terms-induct : (P : Terms → Type 0) → P nil → ((t : Term) (ts : Terms) → P ts → P (cons t ts)) → (ts : Terms) → P ts
 terms-induct P e m nil = e
@@ -76,3 +70,10 @@ module _ {A S : Type 0} {empty : S} {more : A → S → S} {put : A → Writer} 
     many-step bs =
         items-fuel (length bs) (suc (length bs)) bs (omega arith) (omega arith)
         ∙ next-cong _ _ bs (λ rest l. items-fuel (length bs) (length rest) rest (omega arith) (omega arith))
+
+    pub many-complete : Complete put F read → Complete (λ s. puts s ∘ word ")") G (readMany empty more read)
+    unfolding readNext oneOf strip
+    many-complete c =
+        I .induct (λ s. G s → (rest : List ℕ) → readMany empty more read (puts s (word ")" rest)) ≡ got s rest)
+          (λ g rest. rw (I .put-empty, many-step))
+          (λ a s ih g rest. let (f, h) = I .formed-more a s .0 g in rw (I .put-more, many-step, c a f _, ih h rest))

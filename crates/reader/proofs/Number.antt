@@ -3,23 +3,19 @@ use Prim.Native.Nat.{ℕ, zero, suc, _+_, _*_, _-_, _/_, _%_, _≤_, _<_}
 use mathlib.Core.Path.{_≡_, refl, sym, _∙_, ap, subst}
 use mathlib.Core.Bool.{Bool, true, false, not, cond, _&&_}
 use mathlib.Core.List.{List, [], _∷_}
-use mathlib.Core.Logic.{_↔_}
 use native.Mathlib.Omega.{arith}
 use lib.Dec.{T, leb, ltb, leb→le, le→leb, ltb→lt, nltb→le, T-not}
 use borrow.Author.Tests.{le-leb, lt-ltb, le-ltb}
 use Rattle.reader.specs.Write.{digitByte, putDigits, putNumber}
 use Rattle.reader.specs.Form.{maxNumber, formedNumber}
 use Rattle.reader.specs.Read.{Parsed, bad, got, digit, goesOn, readDigits, readNumber}
+use Rattle.reader.proofs.Formed.{T-and}
 use Rattle.reader.proofs.Gives.{Gives, nothing, gives, weaken, onTest, Sound}
 
 -- No digit stands at the front.
 abbrev pub ends : List ℕ → Bool
 ends [] = true
 ends (b ∷ bs) = not (digit b)
-
-pub T-and : (a b : Bool) → T (a && b) ↔ T a × T b
-T-and true b = (λ t. (tt, t), λ t. t .1)
-T-and false b = (λ t. absurd t, λ t. t .0)
 
 pub bounded : {n : ℕ} → T (formedNumber n) → n ≤ maxNumber
 bounded {n} t = leb→le n maxNumber t

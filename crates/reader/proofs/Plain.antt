@@ -19,7 +19,7 @@ use Rattle.logic.specs.Syntax.{Term, var, app, Terms, nil, cons, Result, value,
 use Rattle.reader.specs.Words.{bytes, lineEnd, signWord, linkWord, arrowWord, ruleWord}
 use Rattle.reader.specs.Write.{Writer, _∘_, word, digitByte, putDigits, putNumber, putTerm, putTerms, putArguments, putResult, putAtom, putLiteral, putLiterals, putClause, putLet, putStep, putLine, writeLine}
 use Rattle.reader.proofs.Gives.{onTest}
-use Rattle.reader.proofs.Number.{T-and}
+use Rattle.reader.proofs.Formed.{T-and}
 
 -- No byte is a line end.
 abbrev pub unbroken : List ℕ → Bool

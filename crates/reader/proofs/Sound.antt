@@ -12,20 +12,11 @@ use Rattle.logic.specs.Syntax.{Term, var, app, Terms, nil, cons, Result, value,
 use Rattle.reader.specs.Words.{signWord, signs, linkWord, links, arrowWord, arrows, ruleWord, rules}
 use Rattle.reader.specs.Write.{_∘_, word, putTerm, putTerms, putArguments, putResult, putAtom, putLiteral, putLiterals, putClause, putLet, putStep, putLine, writeLine}
 use Rattle.reader.specs.Form.{formedNumber, depthOf, numbered, formedTerm, formedTerms, formedResult, formedAtom, formedLiteral, formedClause, formedStep, formedLine}
-use Rattle.reader.specs.Read.{Parsed, bad, got, return, oneOf, each, Reading, form, noForm, readMany, readVariable, readApplied, readTerm, readArguments, readResult, readLink, readObject, readMethod, readAtom, readSign, readLiteral, readClause, readLet, readRule, readSym, readInput, readStep, readForm, whole, readLine}
+use Rattle.reader.specs.Read.{Parsed, bad, got, return, oneOf, each, Reading, form, noForm, readMany, readVariable, readApplied, readTerm, readArguments, readResult, readLink, readObject, readMethod, readKind, readAtom, readSign, readLiteral, readClause, readLet, readRule, readSym, readInput, readStep, readForm, whole, readLine}
 use Rattle.reader.proofs.Gives.{nothing, given, onTest, Meets, Sound, seq, finally, skipped, returned, none as noBranch, branch, branches, oneOf-meets}
-use Rattle.reader.proofs.Number.{T-and, number-sound}
+use Rattle.reader.proofs.Formed.{T-and, var-formed, app-formed}
+use Rattle.reader.proofs.Number.{number-sound}
 use Rattle.reader.proofs.Items.{terms, literals, many-sound}
-
-var-formed : (d n : ℕ) → T (formedNumber n) ↔ T (formedTerm (suc d) (var n))
-unfolding formedTerm depthOf numbered
-var-formed d n = (λ f. simp T-and (omega (arith, le→leb), f), λ h. let (_, f) = simp T-and at h in f)
-
-app-formed : (d n : ℕ) (ts : Terms) → T (formedNumber n) × T (formedTerms d ts) ↔ T (formedTerm (suc d) (app n ts))
-unfolding formedTerm formedTerms depthOf numbered
-app-formed d n ts =
-    ( λ h. let (f, g) = simp T-and at h in simp T-and (omega (arith, leb→le, le→leb), (f, g .1))
-    , λ h. let (m, g) = simp T-and at h in simp T-and (g .0, (omega (arith, leb→le, le→leb), g .1)) )
 
 pub term-sound : (d : ℕ) → Sound putTerm (λ t. T (formedTerm d t)) (readTerm d)
 unfolding readTerm readVariable readApplied putTerm
@@ -47,7 +38,7 @@ result-sound d a =
       (branch (seq (term-sound d) λ t f. returned λ rest. (refl, f)) noBranch))
 
 pub atom-sound : (d : ℕ) → Sound putAtom (λ a. T (formedAtom d a)) (readAtom d)
-unfolding readAtom readLink readObject readMethod putAtom formedAtom
+unfolding readAtom readKind readLink readObject readMethod putAtom formedAtom
 atom-sound d =
     skipped "(" (oneOf-meets
       (branches linkWord links (λ l. skipped " " (seq (term-sound d) λ t f. skipped " " (seq (term-sound d) λ u g. skipped ")" (returned {a = link l t u} λ rest. (refl, simp T-and (f, g))))))

@@ -170,11 +170,15 @@ readMethod depth a = do
   skip ")"
   return (method a o m ts r)
 
+-- The word of an atom decides what follows it.
+unfoldable pub readKind : ℕ → Reader Atom
+readKind depth = oneOf (each linkWord (readLink depth) links ++ ("obj" ⇒ readObject depth) ∷ each arrowWord (readMethod depth) arrows)
+
 -- "ATOM: `(eq T U)` equality; `(mem T U)` T : U; `(sub T U)` T :: U; `(obj T)` T[]; `(ARROW O M (T ...) R)`"
 unfoldable pub readAtom : ℕ → Reader Atom
 readAtom depth = do
   skip "("
-  oneOf (each linkWord (readLink depth) links ++ ("obj" ⇒ readObject depth) ∷ each arrowWord (readMethod depth) arrows)
+  readKind depth
 
 -- "LIT is `(+ ATOM)` or `(- ATOM)`."
 unfoldable pub readSign : Reader Sign
