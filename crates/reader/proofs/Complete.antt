@@ -119,3 +119,7 @@ form-complete d (by s) f rest =
       , let-complete d (s .first) f₆ _
       , let-complete d (s .second) f₇ _
       , clause-complete d (s .claim) f₈ _ )
+
+pub line-complete : (d : ℕ) (l : Line) → T (formedLine d l) → readLine d (writeLine l) ≡ form l
+unfolding readLine writeLine whole
+line-complete d l f = rw (form-complete d l f [])

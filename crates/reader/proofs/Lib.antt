@@ -5,4 +5,6 @@ pub mod Plain
 pub mod Items
 pub mod Sound
 pub mod Complete
+pub mod Unique
+pub mod Lines
 pub mod Examples

@@ -67,3 +67,7 @@ unfoldable pub formedLine : ℕ → Line → Bool
 formedLine depth (sym k) = formedNumber k
 formedLine depth (input c) = formedClause depth c
 formedLine depth (by s) = formedStep depth s
+
+unfoldable pub formedLines : ℕ → List Line → Bool
+formedLines depth [] = true
+formedLines depth (l ∷ ls) = formedLine depth l && formedLines depth ls
