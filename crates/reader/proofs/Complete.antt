@@ -1,26 +1,23 @@
 -- Write then read: each formed value is read back from the bytes written for it, and reading stops there.
 use Prim.Native.Nat.{ℕ, zero, suc}
-use Prim.Native.String.{String}
-use mathlib.Core.Path.{_≡_, refl, ap}
-use mathlib.Core.Bool.{Bool, true, false, _&&_, cond}
-use mathlib.Core.List.{List, [], _∷_, _++_}
-use native.Mathlib.Omega.{arith}
+use mathlib.Core.Path.{_≡_, refl}
+use mathlib.Core.Bool.{false}
+use mathlib.Core.List.{List, [], _∷_}
 use lib.Dec.{T, T-not, eqb}
-use Rattle.logic.specs.declared.Sign.{Sign}
 use Rattle.logic.specs.declared.Sign.the-variants.{Positive, Negative}
 use Rattle.logic.specs.declared.Link.{Link}
 use Rattle.logic.specs.declared.Link.the-variants.{Eq, Mem, Sub}
 use Rattle.logic.specs.declared.Arrow.{Arrow}
 use Rattle.logic.specs.declared.Arrow.the-variants.{Sv, Si, Mv, Mi, St, Mt}
-use Rattle.logic.specs.declared.Rule.{Rule}
 use Rattle.logic.specs.declared.Rule.the-variants.{Refl, Res, Fac, Par, Acy, Tra, Inc, Inh, Inp, Out, Sca, Eli}
-use Rattle.logic.specs.Syntax.{Term, var, app, Terms, nil, cons, Result, value, none, mayBeNone, Atom, link, obj, method, Literal, lit, Clause, Step, Line, sym, input, by}
+use Rattle.logic.specs.Syntax.{Term, var, app, Terms, nil, cons, Result, value, none, mayBeNone, link, obj, method, lit, Line, sym, input, by}
 use Rattle.reader.specs.Words.{bytes, signWord, linkWord, arrowWord, ruleWord}
-use Rattle.reader.specs.Write.{_∘_, word, putNumber, putTerm, putTerms, putArguments, putResult, putAtom, putLiteral, putLiterals, putClause, putLet, putStep, putLine, writeLine}
-use Rattle.reader.specs.Form.{formedNumber, depthOf, numbered, formedTerm, formedTerms, formedResult, formedAtom, formedLiteral, formedClause, formedStep, formedLine}
-use Rattle.reader.specs.Read.{Parsed, bad, got, Reader, return, strip, oneOf, each, digit, Reading, form, noForm, readNumber, readTerms, readMany, readVariable, readApplied, readTerm, readArguments, readResult, readLink, readObject, readMethod, readKind, readAtom, readSign, readLiteral, readClause, readLet, readRule, readSym, readInput, readStep, readForm, whole, readLine}
-use Rattle.reader.proofs.Gives.{onTest, Complete}
-use Rattle.reader.proofs.Formed.{T-and, var-formed, app-formed, no-depth}
+use Rattle.reader.specs.Write.{_∘_, word, putTerm, putTerms, putArguments, putResult, putAtom, putLiteral, putClause, putLet, putStep, putLine, writeLine}
+use Rattle.reader.specs.Form.{formedTerm, formedTerms, formedResult, formedAtom, formedLiteral, formedClause, formedStep, formedLine}
+use Rattle.reader.specs.Read.{bad, got, Reader, strip, oneOf, digit, form, readTerms, readVariable, readApplied, readTerm, readArguments, readResult, readLink, readObject, readMethod, readKind, readAtom, readSign, readLiteral, readClause, readLet, readRule, readSym, readInput, readStep, readForm, whole, readLine}
+use Rattle.reader.proofs.Tests.{T-and, onTest}
+use Rattle.reader.proofs.Gives.{Complete}
+use Rattle.reader.proofs.Formed.{var-formed, app-formed, no-depth}
 use Rattle.reader.proofs.Number.{ends, number-complete}
 use Rattle.reader.proofs.Plain.{term-plain, literal-plain}
 use Rattle.reader.proofs.Items.{terms, literals, many-complete}
@@ -109,16 +106,17 @@ form-complete d (by s) f rest =
     let ((h, f₆), f₇) = g in
     let ((i, f₄), f₅) = h in
     let ((f₁, f₂), f₃) = i in
-    rw
-      ( rule-complete (s .rule) tt _
-      , number-complete (s .a) _ f₁ tt
-      , number-complete (s .i) _ f₂ tt
-      , number-complete (s .b) _ f₃ tt
-      , number-complete (s .j) _ f₄ tt
-      , number-complete (s .k) _ f₅ tt
-      , let-complete d (s .first) f₆ _
-      , let-complete d (s .second) f₇ _
-      , clause-complete d (s .claim) f₈ _ )
+    rw (
+      rule-complete (s .rule) tt _,
+      number-complete (s .a) _ f₁ tt,
+      number-complete (s .i) _ f₂ tt,
+      number-complete (s .b) _ f₃ tt,
+      number-complete (s .j) _ f₄ tt,
+      number-complete (s .k) _ f₅ tt,
+      let-complete d (s .first) f₆ _,
+      let-complete d (s .second) f₇ _,
+      clause-complete d (s .claim) f₈ _,
+    )
 
 pub line-complete : (d : ℕ) (l : Line) → T (formedLine d l) → readLine d (writeLine l) ≡ form l
 unfolding readLine writeLine whole

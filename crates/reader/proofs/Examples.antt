@@ -2,16 +2,14 @@
 use Prim.Native.Nat.{ℕ, zero, suc}
 use Prim.Native.String.{String}
 use mathlib.Core.Path.{_≡_, refl}
-use mathlib.Core.Bool.{Bool, true, false}
-use mathlib.Core.List.{List, [], _∷_, _++_, map}
+use mathlib.Core.List.{List, [], _∷_, map}
 use Rattle.logic.specs.declared.Sign.the-variants.{Positive, Negative}
 use Rattle.logic.specs.declared.Link.the-variants.{Mem, Sub}
 use Rattle.logic.specs.declared.Rule.the-variants.{Inc, Res}
-use Rattle.logic.specs.Syntax.{Term, var, app, Terms, nil, cons, Atom, link, lit, Step, Line, sym, input, by, mayBeNone}
+use Rattle.logic.specs.Syntax.{Term, var, app, nil, cons, link, lit, Line, sym, input, by, mayBeNone}
 use Rattle.reader.specs.Words.{bytes}
-use Rattle.reader.specs.Write.{putDigits, putNumber, putTerm, putArguments, putResult, putAtom, putLiteral, putLiterals, putClause, putLet, putStep, putLine, writeLine, writeLines}
-use Rattle.reader.specs.Form.{depthOf, numbered, formedTerm}
-use Rattle.reader.specs.Read.{Parsed, bad, got, Reading, form, noForm, strip, oneOf, digit, goesOn, readDigits, readNumber, readNext, readItems, readMany, readVariable, readApplied, readTerm, readArguments, readResult, readLink, readObject, readMethod, readKind, readAtom, readSign, readLiteral, readClause, readLet, readRule, readSym, readInput, readStep, readForm, whole, readLine}
+use Rattle.reader.specs.Write.{putDigits, putNumber, putTerm, putArguments, putResult, putAtom, putLiteral, putLiterals, putClause, putLet, putStep, putLine, writeLines}
+use Rattle.reader.specs.Read.{bad, got, Reading, form, noForm, strip, oneOf, digit, goesOn, readDigits, readNumber, readNext, readItems, readMany, readVariable, readApplied, readTerm, readArguments, readResult, readLink, readObject, readMethod, readKind, readAtom, readSign, readLiteral, readClause, readLet, readRule, readSym, readInput, readStep, readForm, whole, readLine}
 use Rattle.reader.specs.Split.{push, split, readRaw}
 
 abbrev text : List ℕ

@@ -1,15 +1,11 @@
 -- The form's bounds, taken apart.
-use Prim.Native.Nat.{ℕ, suc, max}
-use mathlib.Core.Bool.{Bool, true, false, _&&_}
+use Prim.Native.Nat.{ℕ, suc}
 use mathlib.Core.Logic.{_↔_}
 use native.Mathlib.Omega.{arith}
-use lib.Dec.{T, leb, leb→le, le→leb}
+use lib.Dec.{T, leb→le, le→leb}
 use Rattle.logic.specs.Syntax.{Term, var, app, Terms, cons}
 use Rattle.reader.specs.Form.{formedNumber, depthOf, depthOfs, numbered, numbereds, formedTerm, formedTerms}
-
-pub T-and : (a b : Bool) → T (a && b) ↔ T a × T b
-T-and true b = (λ t. (tt, t), λ t. t .1)
-T-and false b = (λ t. absurd t, λ t. t .0)
+use Rattle.reader.proofs.Tests.{T-and}
 
 pub var-formed : (d n : ℕ) → T (formedNumber n) ↔ T (formedTerm (suc d) (var n))
 unfolding formedTerm depthOf numbered
@@ -17,15 +13,17 @@ var-formed d n = (λ f. simp T-and (omega (arith, le→leb), f), λ h. let (_, f
 
 pub app-formed : (d n : ℕ) (ts : Terms) → T (formedNumber n) × T (formedTerms d ts) ↔ T (formedTerm (suc d) (app n ts))
 unfolding formedTerm formedTerms depthOf numbered
-app-formed d n ts =
-    ( λ h. let (f, g) = simp T-and at h in simp T-and (omega (arith, leb→le, le→leb), (f, g .1))
-    , λ h. let (m, g) = simp T-and at h in simp T-and (g .0, (omega (arith, leb→le, le→leb), g .1)) )
+app-formed d n ts = (
+  λ h. let (f, g) = simp T-and at h in simp T-and (omega (arith, leb→le, le→leb), (f, g .1)),
+  λ h. let (m, g) = simp T-and at h in simp T-and (g .0, (omega (arith, leb→le, le→leb), g .1)),
+)
 
 pub terms-formed : (d : ℕ) (t : Term) (ts : Terms) → T (formedTerms d (cons t ts)) ↔ T (formedTerm d t) × T (formedTerms d ts)
 unfolding formedTerms formedTerm numbereds depthOfs
-terms-formed d t ts =
-    ( λ h. let (m, p) = simp T-and at h in simp T-and ((omega (arith, leb→le, le→leb), p .0), (omega (arith, leb→le, le→leb), p .1))
-    , λ h. let (x, y) = simp T-and at h in simp T-and (omega (arith, leb→le, le→leb), (x .1, y .1)) )
+terms-formed d t ts = (
+  λ h. let (m, p) = simp T-and at h in simp T-and ((omega (arith, leb→le, le→leb), p .0), (omega (arith, leb→le, le→leb), p .1)),
+  λ h. let (x, y) = simp T-and at h in simp T-and (omega (arith, leb→le, le→leb), (x .1, y .1)),
+)
 
 pub no-depth : (t : Term) → T (formedTerm 0 t) → ⊥
 unfolding formedTerm depthOf

@@ -1,13 +1,13 @@
 -- What a reader gives: the rules by which a property of its answers is proved, part by part, as the reader is written.
 use Prim.Native.Nat.{ℕ}
 use Prim.Native.String.{String}
-use mathlib.Core.Path.{_≡_, refl, sym, ap, subst}
-use mathlib.Core.Bool.{Bool, true, false, not, cond, _&&_}
-use mathlib.Core.List.{List, [], _∷_, _++_, map}
-use lib.Dec.{T, eqb, eqb→eq}
+use mathlib.Core.Path.{_≡_, refl, subst}
+use mathlib.Core.List.{List, [], _∷_, _++_}
+use lib.Dec.{eqb, eqb→eq}
 use Rattle.reader.specs.Words.{bytes}
 use Rattle.reader.specs.Write.{Writer, word}
 use Rattle.reader.specs.Read.{Parsed, bad, got, Reader, after, _>>=_, _>>_, return, strip, skip, Branch, _⇒_, orElse, oneOf, each}
+use Rattle.reader.proofs.Tests.{onTest}
 
 -- If the answer is a value, then Q of it and the bytes after it.
 pub data Gives {A : Type 0} (Q : A → List ℕ → Type 0) : Parsed A → Type 0 where
@@ -27,11 +27,6 @@ bind (gives {a} {rest} q) k = k a rest q
 pub weaken : {A : Type 0} {Q R : A → List ℕ → Type 0} {p : Parsed A} → Gives Q p → ((a : A) (rest : List ℕ) → Q a rest → R a rest) → Gives R p
 weaken nothing k = nothing
 weaken (gives {a} {rest} q) k = gives (k a rest q)
-
--- By cases of a test.
-pub onTest : {A : Type 0} (P : A → Type 0) (b : Bool) {x y : A} → (T b → P x) → (T (not b) → P y) → P (cond b x y)
-onTest P true f g = f tt
-onTest P false f g = g tt
 
 pub strip-gives : (w bs : List ℕ) → Gives (λ _ rest. bs ≡ w ++ rest) (strip w bs)
 unfolding strip

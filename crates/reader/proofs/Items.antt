@@ -1,18 +1,18 @@
 -- Items after one space each, up to the closing bracket: terms and literals alike.
-use Prim.Native.Nat.{ℕ, zero, suc, _≤_, _<_, max}
-use mathlib.Core.Path.{_≡_, refl, sym, _∙_, ap}
-use mathlib.Core.Bool.{Bool, true, false, _&&_}
+use Prim.Native.Nat.{ℕ, zero, suc, _≤_, _<_}
+use mathlib.Core.Path.{_≡_, refl, sym, _∙_}
 use mathlib.Core.List.{List, [], _∷_}
 use mathlib.Core.Logic.{_↔_}
 use native.Mathlib.Omega.{arith}
 use lib.ListN.{length}
-use lib.Dec.{T, eqb, le→leb}
-use Rattle.logic.specs.Syntax.{Term, Terms, nil, cons, Literal, Clause}
+use lib.Dec.{T, le→leb}
+use Rattle.logic.specs.Syntax.{Term, Terms, nil, cons}
 use Rattle.reader.specs.Write.{Writer, _∘_, word, putTerm, putTerms, putLiteral, putLiterals}
 use Rattle.reader.specs.Form.{depthOfs, numbereds, formedTerm, formedTerms, formedLiteral, formedClause}
-use Rattle.reader.specs.Read.{Parsed, bad, got, Reader, after, return, orElse, strip, oneOf, readNext, readItems, readMany}
-use Rattle.reader.proofs.Gives.{Gives, nothing, gives, weaken, Sound, Complete, seq, returned, none, branch, oneOf-meets, Agree, oneOf-cong, after-cong}
-use Rattle.reader.proofs.Formed.{T-and, terms-formed}
+use Rattle.reader.specs.Read.{got, Reader, strip, oneOf, readNext, readItems, readMany}
+use Rattle.reader.proofs.Tests.{T-and}
+use Rattle.reader.proofs.Gives.{Gives, nothing, weaken, Sound, Complete, seq, returned, none, branch, oneOf-meets, Agree, oneOf-cong, after-cong}
+use Rattle.reader.proofs.Formed.{terms-formed}
 use Rattle.reader.proofs.Plain.{Plain, put-grows}
 
 -- S lists items of A, written by puts, formed as G says.
@@ -75,5 +75,5 @@ module _ {A S : Type 0} {empty : S} {more : A → S → S} {put : A → Writer} 
     unfolding readNext oneOf strip
     many-complete c =
         I .induct (λ s. G s → (rest : List ℕ) → readMany empty more read (puts s (word ")" rest)) ≡ got s rest)
-          (λ g rest. rw (I .put-empty, many-step))
-          (λ a s ih g rest. let (f, h) = I .formed-more a s .0 g in rw (I .put-more, many-step, c a f _, ih h rest))
+        (λ g rest. rw (I .put-empty, many-step))
+        (λ a s ih g rest. let (f, h) = I .formed-more a s .0 g in rw (I .put-more, many-step, c a f _, ih h rest))

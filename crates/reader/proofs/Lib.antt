@@ -1,3 +1,4 @@
+pub mod Tests
 pub mod Gives
 pub mod Formed
 pub mod Number
@@ -6,5 +7,6 @@ pub mod Items
 pub mod Sound
 pub mod Complete
 pub mod Unique
+pub mod Rest
 pub mod Lines
 pub mod Examples

@@ -1,18 +1,17 @@
 -- A text and its lines.
 use Prim.Native.Nat.{ℕ}
 use mathlib.Core.Path.{_≡_, refl, sym, _∙_, ap}
-use mathlib.Core.Bool.{Bool, true, false, not, cond, _&&_}
+use mathlib.Core.Bool.{not}
 use mathlib.Core.List.{List, [], _∷_, _++_, map}
 use native.Mathlib.Omega.{arith}
 use lib.Dec.{T, eqb, eqb→eq, T-not}
 use Rattle.logic.specs.Syntax.{Line}
 use Rattle.reader.specs.Words.{lineEnd}
-use Rattle.reader.specs.Write.{putLine, writeLine, writeLines}
-use Rattle.reader.specs.Form.{formedLine, formedLines}
-use Rattle.reader.specs.Read.{Reading, form, noForm, readLine}
+use Rattle.reader.specs.Write.{writeLine, writeLines}
+use Rattle.reader.specs.Form.{formedLines}
+use Rattle.reader.specs.Read.{form}
 use Rattle.reader.specs.Split.{Raw, ended, unended, push, split, readRaw, join}
-use Rattle.reader.proofs.Gives.{onTest}
-use Rattle.reader.proofs.Formed.{T-and}
+use Rattle.reader.proofs.Tests.{T-and, onTest}
 use Rattle.reader.proofs.Plain.{unbroken, line-plain, in-front, unbroken-put}
 use Rattle.reader.proofs.Sound.{line-sound}
 use Rattle.reader.proofs.Complete.{line-complete}

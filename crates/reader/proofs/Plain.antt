@@ -1,5 +1,5 @@
 -- Each writer puts bytes before what follows, none of them a line end.
-use Prim.Native.Nat.{ℕ, zero, suc, _+_, _/_, _%_, _≤_}
+use Prim.Native.Nat.{ℕ, zero, suc, _/_, _%_, _≤_}
 use Prim.Native.String.{String}
 use mathlib.Core.Path.{_≡_, refl, sym, _∙_, ap}
 use mathlib.Core.Bool.{Bool, true, false, not, _&&_, cond}
@@ -17,9 +17,8 @@ use Rattle.logic.specs.declared.Rule.{Rule}
 use Rattle.logic.specs.declared.Rule.the-variants.{Refl, Res, Fac, Par, Acy, Tra, Inc, Inh, Inp, Out, Sca, Eli}
 use Rattle.logic.specs.Syntax.{Term, var, app, Terms, nil, cons, Result, value, none, Atom, link, obj, method, Literal, lit, Clause, Step, Line, input, by}
 use Rattle.reader.specs.Words.{bytes, lineEnd, signWord, linkWord, arrowWord, ruleWord}
-use Rattle.reader.specs.Write.{Writer, _∘_, word, digitByte, putDigits, putNumber, putTerm, putTerms, putArguments, putResult, putAtom, putLiteral, putLiterals, putClause, putLet, putStep, putLine, writeLine}
-use Rattle.reader.proofs.Gives.{onTest}
-use Rattle.reader.proofs.Formed.{T-and}
+use Rattle.reader.specs.Write.{Writer, _∘_, word, digitByte, putDigits, putNumber, putTerm, putTerms, putArguments, putResult, putAtom, putLiteral, putLiterals, putClause, putLet, putStep, putLine}
+use Rattle.reader.proofs.Tests.{T-and}
 
 -- No byte is a line end.
 abbrev pub unbroken : List ℕ → Bool
@@ -78,6 +77,7 @@ close = plain ")" tt
 
 mutual
   unfolding putTerm
+
   pub term-plain : (t : Term) → Plain (putTerm t)
   term-plain (var n) = plain "(v " tt ⨾ number-plain n ⨾ close
   term-plain (app n ts) = plain "(f " tt ⨾ number-plain n ⨾ terms-plain ts ⨾ close

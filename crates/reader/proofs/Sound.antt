@@ -2,19 +2,17 @@
 use Prim.Native.Nat.{ℕ, zero, suc}
 use Prim.Native.String.{String}
 use mathlib.Core.Path.{_≡_, refl}
-use mathlib.Core.Bool.{Bool, true, false, _&&_, cond}
 use mathlib.Core.List.{List, [], _∷_, _++_}
-use mathlib.Core.Logic.{_↔_}
-use native.Mathlib.Omega.{arith}
-use lib.Dec.{T, leb, leb→le, le→leb}
+use lib.Dec.{T}
 use Rattle.logic.specs.declared.Arrow.{Arrow}
-use Rattle.logic.specs.Syntax.{Term, var, app, Terms, nil, cons, Result, value, none, mayBeNone, Atom, link, obj, method, Literal, lit, Clause, Step, Line, sym, input, by}
+use Rattle.logic.specs.Syntax.{mayBeNone, link, method, Line}
 use Rattle.reader.specs.Words.{signWord, signs, linkWord, links, arrowWord, arrows, ruleWord, rules}
-use Rattle.reader.specs.Write.{_∘_, word, putTerm, putTerms, putArguments, putResult, putAtom, putLiteral, putLiterals, putClause, putLet, putStep, putLine, writeLine}
-use Rattle.reader.specs.Form.{formedNumber, depthOf, numbered, formedTerm, formedTerms, formedResult, formedAtom, formedLiteral, formedClause, formedStep, formedLine}
-use Rattle.reader.specs.Read.{Parsed, bad, got, return, oneOf, each, Reading, form, noForm, readMany, readVariable, readApplied, readTerm, readArguments, readResult, readLink, readObject, readMethod, readKind, readAtom, readSign, readLiteral, readClause, readLet, readRule, readSym, readInput, readStep, readForm, whole, readLine}
-use Rattle.reader.proofs.Gives.{nothing, given, onTest, Meets, Sound, seq, finally, skipped, returned, none as noBranch, branch, branches, oneOf-meets}
-use Rattle.reader.proofs.Formed.{T-and, var-formed, app-formed}
+use Rattle.reader.specs.Write.{word, putTerm, putArguments, putResult, putAtom, putLiteral, putClause, putLet, putStep, putLine, writeLine}
+use Rattle.reader.specs.Form.{formedTerm, formedTerms, formedResult, formedAtom, formedLiteral, formedClause, formedStep, formedLine}
+use Rattle.reader.specs.Read.{Parsed, bad, got, return, oneOf, each, form, readVariable, readApplied, readTerm, readArguments, readResult, readLink, readObject, readMethod, readKind, readAtom, readSign, readLiteral, readClause, readLet, readRule, readSym, readInput, readStep, readForm, whole, readLine}
+use Rattle.reader.proofs.Tests.{T-and, onTest}
+use Rattle.reader.proofs.Gives.{nothing, given, Meets, Sound, seq, finally, skipped, returned, none as noBranch, branch, branches, oneOf-meets}
+use Rattle.reader.proofs.Formed.{var-formed, app-formed}
 use Rattle.reader.proofs.Number.{number-sound}
 use Rattle.reader.proofs.Items.{terms, literals, many-sound}
 
@@ -23,27 +21,27 @@ unfolding readTerm readVariable readApplied putTerm
 term-sound zero = record { at = λ bs. nothing }
 term-sound (suc d) =
     oneOf-meets (branch (seq number-sound λ n f. skipped ")" (returned λ rest. (refl, var-formed d n .0 f)))
-      (branch (seq number-sound λ n f. seq (many-sound (terms d) (term-sound d)) λ ts g. returned λ rest. (refl, app-formed d n ts .0 (f, g))) noBranch))
+    (branch (seq number-sound λ n f. seq (many-sound (terms d) (term-sound d)) λ ts g. returned λ rest. (refl, app-formed d n ts .0 (f, g))) noBranch))
 
 pub arguments-sound : (d : ℕ) → Sound putArguments (λ ts. T (formedTerms d ts)) (readArguments d)
 unfolding readArguments putArguments
 arguments-sound d =
     oneOf-meets (branch (returned λ rest. (refl, terms d .formed-empty))
-      (branch (seq (term-sound d) λ t f. seq (many-sound (terms d) (term-sound d)) λ ts g. returned λ rest. (refl, terms d .formed-more t ts .1 (f, g))) noBranch))
+    (branch (seq (term-sound d) λ t f. seq (many-sound (terms d) (term-sound d)) λ ts g. returned λ rest. (refl, terms d .formed-more t ts .1 (f, g))) noBranch))
 
 pub result-sound : (d : ℕ) (a : Arrow) → Sound putResult (λ r. T (formedResult d a r)) (readResult d a)
 unfolding readResult putResult formedResult
-result-sound d a = 
+result-sound d a =
     oneOf-meets (branch (onTest (Meets _) (mayBeNone a) (λ t. returned λ rest. (refl, t)) (λ _. record { at = λ bs. nothing }))
-      (branch (seq (term-sound d) λ t f. returned λ rest. (refl, f)) noBranch))
+    (branch (seq (term-sound d) λ t f. returned λ rest. (refl, f)) noBranch))
 
 pub atom-sound : (d : ℕ) → Sound putAtom (λ a. T (formedAtom d a)) (readAtom d)
 unfolding readAtom readKind readLink readObject readMethod putAtom formedAtom
 atom-sound d =
     skipped "(" (oneOf-meets
-      (branches linkWord links (λ l. skipped " " (seq (term-sound d) λ t f. skipped " " (seq (term-sound d) λ u g. skipped ")" (returned {a = link l t u} λ rest. (refl, simp T-and (f, g))))))
-      (branch (skipped " " (seq (term-sound d) λ t f. skipped ")" (returned λ rest. (refl, f))))
-      (branches arrowWord arrows (λ a. skipped " " (seq (term-sound d) λ o f. skipped " " (seq (term-sound d) λ m g. skipped " " (seq (arguments-sound d) λ ts h. skipped " " (seq (result-sound d a) λ r i. skipped ")" (returned {a = method a o m ts r} λ rest. (refl, simp T-and (((f, g), h), i)))))))) noBranch))))
+    (branches linkWord links (λ l. skipped " " (seq (term-sound d) λ t f. skipped " " (seq (term-sound d) λ u g. skipped ")" (returned {a = link l t u} λ rest. (refl, simp T-and (f, g))))))
+    (branch (skipped " " (seq (term-sound d) λ t f. skipped ")" (returned λ rest. (refl, f))))
+    (branches arrowWord arrows (λ a. skipped " " (seq (term-sound d) λ o f. skipped " " (seq (term-sound d) λ m g. skipped " " (seq (arguments-sound d) λ ts h. skipped " " (seq (result-sound d a) λ r i. skipped ")" (returned {a = method a o m ts r} λ rest. (refl, simp T-and (((f, g), h), i)))))))) noBranch))))
 
 -- a word of a table
 pub table-sound : {A : Type 0} (w : A → String) (table : List A) → Sound (λ a. word (w a)) (λ _. Unit {0}) (oneOf (each w return table ++ []))
@@ -65,8 +63,8 @@ pub form-sound : (d : ℕ) → Sound putLine (λ l. T (formedLine d l)) (readFor
 unfolding readForm readSym readInput readStep readRule putLine putStep formedLine formedStep
 form-sound d =
     oneOf-meets (branch (seq number-sound λ k f. skipped ")" (returned λ rest. (refl, f)))
-      (branch (seq (clause-sound d) λ c f. skipped ")" (returned λ rest. (refl, f)))
-      (branch (seq (table-sound ruleWord rules) λ r _. skipped " " (seq number-sound λ a f₁. skipped " " (seq number-sound λ i f₂. skipped " " (seq number-sound λ b f₃. skipped " " (seq number-sound λ j f₄. skipped " " (seq number-sound λ k f₅. skipped " " (seq (let-sound d) λ first f₆. skipped " " (seq (let-sound d) λ second f₇. skipped " " (seq (clause-sound d) λ claim f₈. skipped ")" (returned λ rest. (refl, simp T-and (((((((f₁, f₂), f₃), f₄), f₅), f₆), f₇), f₈)))))))))))) noBranch)))
+    (branch (seq (clause-sound d) λ c f. skipped ")" (returned λ rest. (refl, f)))
+    (branch (seq (table-sound ruleWord rules) λ r _. skipped " " (seq number-sound λ a f₁. skipped " " (seq number-sound λ i f₂. skipped " " (seq number-sound λ b f₃. skipped " " (seq number-sound λ j f₄. skipped " " (seq number-sound λ k f₅. skipped " " (seq (let-sound d) λ first f₆. skipped " " (seq (let-sound d) λ second f₇. skipped " " (seq (clause-sound d) λ claim f₈. skipped ")" (returned λ rest. (refl, simp T-and (((((((f₁, f₂), f₃), f₄), f₅), f₆), f₇), f₈)))))))))))) noBranch)))
 
 whole-got : (p : Parsed Line) (l : Line) → whole p ≡ form l → p ≡ got l []
 unfolding whole

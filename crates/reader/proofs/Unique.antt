@@ -1,16 +1,15 @@
 -- Equal bytes are equal values: a formed value is determined by its bytes, also with other bytes after it.
-use Prim.Native.Nat.{ℕ, _≤_, _<_}
-use mathlib.Core.Path.{_≡_, refl, sym, _∙_, ap, subst}
-use mathlib.Core.Bool.{Bool, true, false}
+use Prim.Native.Nat.{ℕ, _≤_, _<_, max}
+use mathlib.Core.Path.{_≡_, refl, sym, _∙_, ap}
 use mathlib.Core.List.{List, []}
 use native.Mathlib.Omega.{arith}
 use lib.Dec.{T, leb→le, le→leb}
-use Rattle.logic.specs.Syntax.{Term, Terms, Atom, Clause, Line}
-use Rattle.reader.specs.Write.{Writer, _∘_, word, putTerm, putTerms, putAtom, putClause, putLine, writeLine}
-use Rattle.reader.specs.Form.{depthOf, numbered, formedTerm, formedTerms, formedAtom, formedClause, formedLine}
+use Rattle.logic.specs.Syntax.{Term, Line}
+use Rattle.reader.specs.Write.{Writer, _∘_, word, putTerm, putTerms, putAtom, putClause, writeLine}
+use Rattle.reader.specs.Form.{depthOf, depthOfs, numbered, numbereds, formedTerm, formedTerms, formedAtom, formedClause, formedLine}
 use Rattle.reader.specs.Read.{Parsed, bad, got, Reader, readTerm, readTerms, readAtom, readClause, readForm}
+use Rattle.reader.proofs.Tests.{T-and}
 use Rattle.reader.proofs.Gives.{Gives, nothing, gives, given, Complete}
-use Rattle.reader.proofs.Formed.{T-and}
 use Rattle.reader.proofs.Sound.{term-sound}
 use Rattle.reader.proofs.Complete.{term-complete, terms-complete, atom-complete, clause-complete, form-complete}
 
@@ -22,11 +21,18 @@ unique read c a b r s f g e =
     let q : got a r ≡ got b s = sym (c a f r) ∙ ap read e ∙ c b g s in
     (cc, cc)
 
-pub term-unique : (d : ℕ) → Unique putTerm (λ t. T (formedTerm d t))
-term-unique d = unique (readTerm d) (term-complete d)
+-- of any depth
+pub term-unique : Unique putTerm (λ t. T (numbered t))
+unfolding formedTerm
+term-unique t u r s m n e =
+    let d = max (depthOf t) (depthOf u) in
+    unique (readTerm d) (term-complete d) t u r s (simp T-and (omega (arith, le→leb), m)) (simp T-and (omega (arith, le→leb), n)) e
 
-pub terms-unique : (d : ℕ) → Unique (λ ts. putTerms ts ∘ word ")") (λ ts. T (formedTerms d ts))
-terms-unique d = unique (readTerms (readTerm d)) (terms-complete d)
+pub terms-unique : Unique (λ ts. putTerms ts ∘ word ")") (λ ts. T (numbereds ts))
+unfolding formedTerms
+terms-unique ts us r s m n e =
+    let d = max (depthOfs ts) (depthOfs us) in
+    unique (readTerms (readTerm d)) (terms-complete d) ts us r s (simp T-and (omega (arith, le→leb), m)) (simp T-and (omega (arith, le→leb), n)) e
 
 pub atom-unique : (d : ℕ) → Unique putAtom (λ a. T (formedAtom d a))
 atom-unique d = unique (readAtom d) (atom-complete d)
@@ -51,5 +57,5 @@ too-deep d t rest n h = go (term-sound d .at (putTerm t rest))
     go nothing = refl
     go (gives {a = u} {rest = after} q) =
         let (m, o) = simp T-and at (q .1) in
-        let (e, _) = term-unique (depthOf t) t u rest after (simp T-and (omega (arith, le→leb), n)) (simp T-and (omega (arith, leb→le, le→leb), o)) (q .0) in
+        let (e, _) = term-unique t u rest after n o (q .0) in
         absurd (omega (arith, ap depthOf e, leb→le))

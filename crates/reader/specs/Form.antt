@@ -1,6 +1,6 @@
 -- The bounds that belong to the form itself (document 01, "The text"). The other limits are check 5 and not here.
-use Prim.Native.Nat.{ℕ, zero, suc, max}
-use mathlib.Core.Bool.{Bool, true, false, _&&_}
+use Prim.Native.Nat.{ℕ, suc, max}
+use mathlib.Core.Bool.{Bool, true, _&&_}
 use mathlib.Core.List.{List, [], _∷_}
 use lib.Dec.{leb}
 use Rattle.logic.specs.declared.Arrow.{Arrow}

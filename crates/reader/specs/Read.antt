@@ -9,7 +9,7 @@ use Rattle.logic.specs.declared.Sign.{Sign}
 use Rattle.logic.specs.declared.Link.{Link}
 use Rattle.logic.specs.declared.Arrow.{Arrow}
 use Rattle.logic.specs.declared.Rule.{Rule}
-use Rattle.logic.specs.Syntax.{Term, var, app, Terms, nil, cons, Result, value, none, mayBeNone, Atom, link, obj, method, Literal, lit, Clause, Step, Line, sym, input, by}
+use Rattle.logic.specs.Syntax.{Term, var, app, Terms, nil, cons, Result, value, none, mayBeNone, Atom, link, obj, method, Literal, lit, Clause, Line, sym, input, by}
 use Rattle.reader.specs.Words.{bytes, signWord, signs, linkWord, links, arrowWord, arrows, ruleWord, rules}
 use Rattle.reader.specs.Form.{maxNumber}
 
