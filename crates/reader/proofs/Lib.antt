@@ -1,0 +1,12 @@
+pub mod Tests
+pub mod Gives
+pub mod Formed
+pub mod Number
+pub mod Plain
+pub mod Items
+pub mod Sound
+pub mod Complete
+pub mod Unique
+pub mod Rest
+pub mod Lines
+pub mod Examples

@@ -1,0 +1,73 @@
+-- The bounds that belong to the form itself (document 01, "The text"). The other limits are check 5 and not here.
+use Prim.Native.Nat.{ℕ, suc, max}
+use mathlib.Core.Bool.{Bool, true, _&&_}
+use mathlib.Core.List.{List, [], _∷_}
+use lib.Dec.{leb}
+use Rattle.logic.specs.declared.Arrow.{Arrow}
+use Rattle.logic.specs.Syntax.{Term, var, app, Terms, nil, cons, Result, value, none, mayBeNone, Atom, link, obj, method, Literal, lit, Clause, Step, Line, sym, input, by}
+
+-- "A number N is decimal, 0 to 65,535"
+abbrev pub maxNumber : ℕ
+maxNumber = 65_535
+
+abbrev pub formedNumber : ℕ → Bool
+formedNumber n = leb n maxNumber
+
+-- "Terms nest .. deep, the outermost counting as 1"
+unfoldable mutual
+  pub depthOf : Term → ℕ
+  depthOf (var n) = 1
+  depthOf (app n ts) = suc (depthOfs ts)
+
+  pub depthOfs : Terms → ℕ
+  depthOfs nil = 0
+  depthOfs (cons t ts) = max (depthOf t) (depthOfs ts)
+
+-- Every number of a term is a number N.
+unfoldable mutual
+  pub numbered : Term → Bool
+  numbered (var n) = formedNumber n
+  numbered (app n ts) = formedNumber n && numbereds ts
+
+  pub numbereds : Terms → Bool
+  numbereds nil = true
+  numbereds (cons t ts) = numbered t && numbereds ts
+
+-- "Terms nest at most 16 terms deep ..; a deeper one isn't a form." The depth is a figure of its own.
+unfoldable pub formedTerm : ℕ → Term → Bool
+formedTerm depth t = leb (depthOf t) depth && numbered t
+
+unfoldable pub formedTerms : ℕ → Terms → Bool
+formedTerms depth ts = leb (depthOfs ts) depth && numbereds ts
+
+-- "R is a term; for mv, mi, st, mt it may be the word `none`"
+unfoldable pub formedResult : ℕ → Arrow → Result → Bool
+formedResult depth a (value t) = formedTerm depth t
+formedResult depth a none = mayBeNone a
+
+unfoldable pub formedAtom : ℕ → Atom → Bool
+formedAtom depth (link l t u) = formedTerm depth t && formedTerm depth u
+formedAtom depth (obj t) = formedTerm depth t
+formedAtom depth (method a o m ts r) = formedTerm depth o && formedTerm depth m && formedTerms depth ts && formedResult depth a r
+
+unfoldable pub formedLiteral : ℕ → Literal → Bool
+formedLiteral depth (lit s a) = formedAtom depth a
+
+unfoldable pub formedClause : ℕ → Clause → Bool
+formedClause depth [] = true
+formedClause depth (l ∷ ls) = formedLiteral depth l && formedClause depth ls
+
+-- "A I B J K are numbers N."
+unfoldable pub formedStep : ℕ → Step → Bool
+formedStep depth s =
+    formedNumber (s .a) && formedNumber (s .i) && formedNumber (s .b) && formedNumber (s .j) && formedNumber (s .k)
+    && formedTerms depth (s .first) && formedTerms depth (s .second) && formedClause depth (s .claim)
+
+unfoldable pub formedLine : ℕ → Line → Bool
+formedLine depth (sym k) = formedNumber k
+formedLine depth (input c) = formedClause depth c
+formedLine depth (by s) = formedStep depth s
+
+unfoldable pub formedLines : ℕ → List Line → Bool
+formedLines depth [] = true
+formedLines depth (l ∷ ls) = formedLine depth l && formedLines depth ls

@@ -1,0 +1,5 @@
+pub mod Words
+pub mod Write
+pub mod Form
+pub mod Read
+pub mod Split

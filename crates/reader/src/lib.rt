@@ -1,0 +1,1 @@
+// The text form. Its definitions are in specs/, their laws in proofs/.
