@@ -1,8 +1,8 @@
 -- Equality of signs, links, arrows, atoms and clauses is decided: an enum's through the number of its case.
 use Prim.Native.Nat.{ℕ, zero, suc}
 use mathlib.Core.HLevel.{Discrete}
-use mathlib.Core.List.{List-discrete}
-use mathlib.Core.Path.{_≡_, refl, sym, ap, _∙_}
+use mathlib.Core.List.{[], _∷_, nil≢cons, cons≢nil, head-eq-of-cons-eq, tail-eq-of-cons-eq}
+use mathlib.Core.Path.{_≡_, Path, refl, sym, ap, ap₂, _∙_}
 use native.Mathlib.Decide.{ℕ-discrete}
 use Rattle.logic.specs.declared.Sign.{Sign}
 use Rattle.logic.specs.declared.Sign.the-variants.{Positive, Negative}
@@ -86,5 +86,16 @@ terms? = Terms-discrete ℕ-discrete
 unfoldable pub atom? : (x y : Atom) → Dec (x ≡ y)
 atom? = Atom-discrete link? (Term-discrete ℕ-discrete) arrow? terms? (Result-discrete (Term-discrete ℕ-discrete))
 
+unfoldable pub literal? : (l m : Literal) → Dec (l ≡ m)
+literal? = Literal-discrete sign? atom?
+
+unfoldable pub consSame : {l m : Literal} {c d : Clause} → Dec (l ≡ m) → Dec (c ≡ d) → Dec (Path Clause (l ∷ c) (m ∷ d))
+consSame (yes e) (yes f) = yes (ap₂ _∷_ e f)
+consSame (yes e) (no f) = no (λ h. f (tail-eq-of-cons-eq h))
+consSame (no e) f = no (λ h. e (head-eq-of-cons-eq h))
+
 unfoldable pub clause? : (c d : Clause) → Dec (c ≡ d)
-clause? = List-discrete (Literal-discrete sign? atom?)
+clause? [] [] = yes refl
+clause? [] (m ∷ d) = no nil≢cons
+clause? (l ∷ c) [] = no cons≢nil
+clause? (l ∷ c) (m ∷ d) = consSame (literal? l m) (clause? c d)

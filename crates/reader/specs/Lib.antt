@@ -3,3 +3,5 @@ pub mod Write
 pub mod Form
 pub mod Read
 pub mod Split
+pub mod Figures
+pub mod State

@@ -1,0 +1,4 @@
+-- The verdict of document 01.
+pub mod Checks
+pub mod Answer
+pub mod Corners
