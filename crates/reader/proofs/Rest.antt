@@ -13,12 +13,14 @@ use Rattle.reader.proofs.Plain.{Plain, term-plain, literal-plain}
 use Rattle.reader.proofs.Items.{terms, literals, many-step}
 use Rattle.reader.proofs.Sound.{term-sound, literal-sound}
 
+-- For any part that is read, as in rest-at (term-sound d) term-plain.
 pub rest-at : {A : Type 0} {put : A → Writer} {F : A → Type 0} {read : Reader A} → Sound put F read → ((a : A) → Plain (put a)) → (bs : List ℕ) {a : A} {rest : List ℕ} → read bs ≡ got a rest → (length rest ≤ length bs) × (drop (length bs - length rest) bs ≡ rest)
 rest-at sound plain bs {a} {rest} e =
     let w = plain a .front in
     let l : length (w ++ rest) ≡ length w + length rest = length-append w rest in
     rw (given (sound .at bs) e .0, plain a .puts rest) (omega arith, drop-at w rest (length (w ++ rest) - length rest) (omega arith))
 
+-- With no bound to name: the closing bracket, or one item and the others.
 pub terms-step : (d : ℕ) (bs : List ℕ) → readTerms (readTerm d) bs ≡ readNext nil cons (readTerm d) (readTerms (readTerm d)) bs
 terms-step d = many-step (terms d) (term-sound d) term-plain
 

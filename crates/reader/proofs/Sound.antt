@@ -41,7 +41,10 @@ atom-sound d =
     skipped "(" (oneOf-meets
     (branches linkWord links (λ l. skipped " " (seq (term-sound d) λ t f. skipped " " (seq (term-sound d) λ u g. skipped ")" (returned {a = link l t u} λ rest. (refl, simp T-and (f, g))))))
     (branch (skipped " " (seq (term-sound d) λ t f. skipped ")" (returned λ rest. (refl, f))))
-    (branches arrowWord arrows (λ a. skipped " " (seq (term-sound d) λ o f. skipped " " (seq (term-sound d) λ m g. skipped " " (seq (arguments-sound d) λ ts h. skipped " " (seq (result-sound d a) λ r i. skipped ")" (returned {a = method a o m ts r} λ rest. (refl, simp T-and (((f, g), h), i)))))))) noBranch))))
+    (branches arrowWord arrows (λ a.
+    skipped " " (seq (term-sound d) λ o f. skipped " " (seq (term-sound d) λ m g.
+    skipped " " (seq (arguments-sound d) λ ts h. skipped " " (seq (result-sound d a) λ r i. skipped ")"
+    (returned {a = method a o m ts r} λ rest. (refl, simp T-and (((f, g), h), i)))))))) noBranch))))
 
 -- a word of a table
 pub table-sound : {A : Type 0} (w : A → String) (table : List A) → Sound (λ a. word (w a)) (λ _. Unit {0}) (oneOf (each w return table ++ []))
@@ -64,7 +67,11 @@ unfolding readForm readSym readInput readStep readRule putLine putStep formedLin
 form-sound d =
     oneOf-meets (branch (seq number-sound λ k f. skipped ")" (returned λ rest. (refl, f)))
     (branch (seq (clause-sound d) λ c f. skipped ")" (returned λ rest. (refl, f)))
-    (branch (seq (table-sound ruleWord rules) λ r _. skipped " " (seq number-sound λ a f₁. skipped " " (seq number-sound λ i f₂. skipped " " (seq number-sound λ b f₃. skipped " " (seq number-sound λ j f₄. skipped " " (seq number-sound λ k f₅. skipped " " (seq (let-sound d) λ first f₆. skipped " " (seq (let-sound d) λ second f₇. skipped " " (seq (clause-sound d) λ claim f₈. skipped ")" (returned λ rest. (refl, simp T-and (((((((f₁, f₂), f₃), f₄), f₅), f₆), f₇), f₈)))))))))))) noBranch)))
+    (branch (seq (table-sound ruleWord rules) λ r _.
+    skipped " " (seq number-sound λ a f₁. skipped " " (seq number-sound λ i f₂. skipped " " (seq number-sound λ b f₃.
+    skipped " " (seq number-sound λ j f₄. skipped " " (seq number-sound λ k f₅.
+    skipped " " (seq (let-sound d) λ first f₆. skipped " " (seq (let-sound d) λ second f₇. skipped " " (seq (clause-sound d) λ claim f₈. skipped ")"
+    (returned λ rest. (refl, simp T-and (((((((f₁, f₂), f₃), f₄), f₅), f₆), f₇), f₈)))))))))))) noBranch)))
 
 whole-got : (p : Parsed Line) (l : Line) → whole p ≡ form l → p ≡ got l []
 unfolding whole

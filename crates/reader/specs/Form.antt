@@ -45,6 +45,7 @@ unfoldable pub formedResult : ℕ → Arrow → Result → Bool
 formedResult depth a (value t) = formedTerm depth t
 formedResult depth a none = mayBeNone a
 
+-- Every term of an atom, a literal, a clause is formed.
 unfoldable pub formedAtom : ℕ → Atom → Bool
 formedAtom depth (link l t u) = formedTerm depth t && formedTerm depth u
 formedAtom depth (obj t) = formedTerm depth t
@@ -63,6 +64,7 @@ formedStep depth s =
     formedNumber (s .a) && formedNumber (s .i) && formedNumber (s .b) && formedNumber (s .j) && formedNumber (s .k)
     && formedTerms depth (s .first) && formedTerms depth (s .second) && formedClause depth (s .claim)
 
+-- A line is a form exactly if it is written so and is formed.
 unfoldable pub formedLine : ℕ → Line → Bool
 formedLine depth (sym k) = formedNumber k
 formedLine depth (input c) = formedClause depth c

@@ -13,6 +13,7 @@ use Rattle.logic.specs.Syntax.{Term, var, app, Terms, nil, cons, Result, value,
 use Rattle.reader.specs.Words.{bytes, signWord, signs, linkWord, links, arrowWord, arrows, ruleWord, rules}
 use Rattle.reader.specs.Form.{maxNumber}
 
+-- Nothing, or a value and the bytes after it.
 pub data Parsed (A : Type 0) : Type 0 where
   bad : Parsed A
   got : A → List ℕ → Parsed A
@@ -67,13 +68,15 @@ oneOf ((w ⇒ r) ∷ others) bs = orElse (skip w bs) r (oneOf others) bs
 abbrev pub each : {A B : Type 0} → (A → String) → (A → Reader B) → List A → List (Branch B)
 each w r = map (λ a. w a ⇒ r a)
 
+-- The bytes 0 to 9.
 unfoldable pub digit : ℕ → Bool
 digit b = leb 48 b && leb b 57
 
--- A further digit is read after n: "0 to 65,535, without leading zeros".
+-- "0 to 65,535, without leading zeros": another digit may follow n and make it `further`.
 unfoldable pub goesOn : ℕ → ℕ → Bool
 goesOn n further = leb 1 n && leb further maxNumber
 
+-- The digits after those read, whose value is n.
 unfoldable pub readDigits : ℕ → Reader ℕ
 readDigits n [] = got n []
 readDigits n (b ∷ bs) =
@@ -82,6 +85,7 @@ readDigits n (b ∷ bs) =
     let checked = cond (goesOn n further) onward bad in
     cond (digit b) checked (got n (b ∷ bs))
 
+-- "A number N is decimal, 0 to 65,535, without leading zeros."
 unfoldable pub readNumber : Reader ℕ
 readNumber [] = bad
 readNumber (b ∷ bs) =
@@ -101,6 +105,7 @@ unfoldable pub readItems : {A S : Type 0} → S → (A → S → S) → Reader A
 readItems empty more read zero bs = bad
 readItems empty more read (suc k) bs = readNext empty more read (readItems empty more read k) bs
 
+-- All the items up to the closing bracket, and the bracket.
 unfoldable pub readMany : {A S : Type 0} → S → (A → S → S) → Reader A → Reader S
 readMany empty more read bs = readItems empty more read (length bs) bs
 
@@ -135,12 +140,14 @@ readArguments depth =
       return (cons t ts))) ∷ [])
 
 -- "R is a term; for mv, mi, st, mt it may be the word `none`"
+-- (The empty word: whatever else stands there is read as a term.)
 unfoldable pub readResult : ℕ → Arrow → Reader Result
 readResult depth a =
     oneOf (("none" ⇒ cond (mayBeNone a) (return none) fail) ∷ ("" ⇒ (do
       t ← readTerm depth
       return (value t))) ∷ [])
 
+-- "T U)" after the word
 unfoldable pub readLink : ℕ → Link → Reader Atom
 readLink depth l = do
   skip " "
@@ -150,6 +157,7 @@ readLink depth l = do
   skip ")"
   return (link l t u)
 
+-- "T)" after the word
 unfoldable pub readObject : ℕ → Reader Atom
 readObject depth = do
   skip " "
@@ -157,6 +165,7 @@ readObject depth = do
   skip ")"
   return (obj t)
 
+-- "O M (T ...) R)" after the word
 unfoldable pub readMethod : ℕ → Arrow → Reader Atom
 readMethod depth a = do
   skip " "
@@ -180,10 +189,10 @@ readAtom depth = do
   skip "("
   readKind depth
 
--- "LIT is `(+ ATOM)` or `(- ATOM)`."
 unfoldable pub readSign : Reader Sign
 readSign = oneOf (each signWord return signs)
 
+-- "LIT is `(+ ATOM)` or `(- ATOM)`."
 unfoldable pub readLiteral : ℕ → Reader Literal
 readLiteral depth = do
   skip "("
@@ -246,6 +255,7 @@ readStep depth = do
   skip ")"
   return (by (record { rule = rule; a = a; i = i; b = b; j = j; k = k; first = first; second = second; claim = claim }))
 
+-- "One form a line": a line's form and the bytes after it.
 unfoldable pub readForm : ℕ → Reader Line
 readForm depth = oneOf (("(sym " ⇒ readSym) ∷ ("(in " ⇒ readInput depth) ∷ ("(by " ⇒ readStep depth) ∷ [])
 
@@ -254,6 +264,7 @@ pub data Reading : Type 0 where
   form : Line → Reading
   noForm : Reading
 
+-- Nothing may follow the form.
 unfoldable pub whole : Parsed Line → Reading
 whole bad = noForm
 whole (got l []) = form l
