@@ -75,7 +75,7 @@ last-or-before P [] c (suc n) h before last = absurd (omega arith)
 last-or-before P (d ∷ cs) c zero h before last = before (omega arith)
 last-or-before P (d ∷ cs) c (suc n) h before last = last-or-before P cs c n (omega arith) (λ w. before (omega arith)) (λ e. last (ap suc e))
 
-over-before : (table : List ℕ) (cs : List Clause) (c : Clause) → ((n : ℕ) → ClauseOver table (getD cs n [])) → ClauseOver table c →
+pub over-before : (table : List ℕ) (cs : List Clause) (c : Clause) → ((n : ℕ) → ClauseOver table (getD cs n [])) → ClauseOver table c →
     (n : ℕ) → ClauseOver table (getD (cs ++ (c ∷ [])) n [])
 unfolding eachClause
 over-before table [] c h w zero = w

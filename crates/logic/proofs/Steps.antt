@@ -39,11 +39,11 @@ module _ (cs : List Clause) (s : Step) where
   unfolding Claims
   claims w g′ c′ w′ = let e = infers-conclusion w in let e′ = infers-conclusion w′ in cc
 
-  given→all : Given cs s → AllPass (stepChecks cs s)
+  pub given→all : Given cs s → AllPass (stepChecks cs s)
   unfolding stepChecks AllPass Shaped
   given→all w = (w .parents, (w .numbers, ((w .agreement, s .claim, w .infers), (agrees (w .infers) (w .holds), (claims (w .infers), tt)))))
 
-  all→given : AllPass (stepChecks cs s) → Given cs s
+  pub all→given : AllPass (stepChecks cs s) → Given cs s
   unfolding stepChecks AllPass Shaped Agrees Claims
   all→given w =
       let p = w .1 .1 .0 in

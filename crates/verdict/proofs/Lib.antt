@@ -1,2 +1,5 @@
 pub mod Corners
 pub mod Meaning
+pub mod Entailed
+pub mod Accepts
+pub mod Guaranteed

@@ -57,7 +57,7 @@ Reads F st line rs v =
     ⊎ ((n : ℕ) × (m : ℕ) × (v ≡ Refused (2 + n) (line + m)) × FailsFirst n (checksAt F st rs m) × ((i : ℕ) → i < m → AllPass (checksAt F st rs i)))
 
 module _ (F : Figures) (st : State) (r : Reading) (rs : List Reading) where
-  all-lines : AllPass (checksOf F st r) → ((m : ℕ) → AllPass (checksAt F (after st r) rs m)) → (m : ℕ) → AllPass (checksAt F st (r ∷ rs) m)
+  pub all-lines : AllPass (checksOf F st r) → ((m : ℕ) → AllPass (checksAt F (after st r) rs m)) → (m : ℕ) → AllPass (checksAt F st (r ∷ rs) m)
   unfolding checksAt
   all-lines h k zero = h
   all-lines h k (suc m) = k m
@@ -158,7 +158,7 @@ module _ (F : Figures) (text : List ℕ) where
   not-both h k = absurd (T-not (tooLarge F text) k h)
 
   -- Nothing accepted is refused.
-  accepted-or-refused : {n l : ℕ} → Accepted F text → Refusal F text n l → ⊥
+  pub accepted-or-refused : {n l : ℕ} → Accepted F text → Refusal F text n l → ⊥
   accepted-or-refused a (large h) = not-both h (a .small)
   accepted-or-refused a (atLine n m h f b) = pass-or-fail n (checksAt F fresh (readings F text) m) (a .passes m) f
   accepted-or-refused a (atEnd h k c) = T-not (hasConstant (tableOf F text)) c (a .constant)
