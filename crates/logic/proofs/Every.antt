@@ -155,3 +155,7 @@ module _ (table : List ℕ) where
     scalar-eq = λ {g} {o} {m} {r} {s} {ts} t h w. link-ground Eq r s (value-parts g o m ts r h .3) (value-parts g o m ts s w .3);
     none-holds = λ {x} h. bare-ground x h;
   }
+
+pub everything-holds : (table : List ℕ) (x : Atom) → T (groundAtom table x) → everything table .holds x
+unfolding everything
+everything-holds table x h = h

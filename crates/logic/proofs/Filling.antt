@@ -78,7 +78,7 @@ module _ (γ : Substitution) where
   nth-fill (cons t ts) zero = refl
   nth-fill (cons t ts) (suc n) = nth-fill ts n
 
-  front-fill : (n : ℕ) (ts : Terms) → fills γ (front n ts) ≡ front n (fills γ ts)
+  pub front-fill : (n : ℕ) (ts : Terms) → fills γ (front n ts) ≡ front n (fills γ ts)
   unfolding front fill
   front-fill zero ts = refl
   front-fill (suc n) nil = refl

@@ -3,3 +3,4 @@ pub mod Meaning
 pub mod Entailed
 pub mod Accepts
 pub mod Guaranteed
+pub mod Worked

@@ -92,3 +92,13 @@ corners =
     ∷ []
     gives Refuted 3 2)
     ∷ []
+
+-- A text of each answer: the second has a model of its inputs, and so has the third, whose step is refused.
+unfoldable pub refutedText : List ℕ
+refutedText = textOf ("(sym 0)" ∷ "(in (or (- (sub (f 0) (f 0)))))" ∷ "(by refl 0 0 0 0 0 (let (f 0)) (let) (or (+ (sub (f 0) (f 0)))))" ∷ "(by res 0 0 1 0 0 (let) (let) (or))" ∷ [])
+
+unfoldable pub openText : List ℕ
+openText = textOf ("(sym 0)" ∷ "(in (or (+ (mem (v 0) (f 0)))))" ∷ [])
+
+unfoldable pub refusedText : List ℕ
+refusedText = textOf ("(sym 0)" ∷ "(in (or (+ (mem (v 0) (f 0)))))" ∷ "(by refl 0 0 0 0 0 (let) (let) (or))" ∷ [])

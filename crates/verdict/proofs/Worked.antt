@@ -1,0 +1,45 @@
+-- A text whose inputs have a model is never refuted; a worked example of each answer.
+use Prim.Native.Nat.{ℕ}
+use mathlib.Core.List.{List, [], _∷_}
+use mathlib.Core.Bool.{true}
+use mathlib.Core.Logic.{inl}
+use mathlib.Core.Path.{_≡_, sym, subst₂}
+use lib.Dec.{T}
+use Rattle.logic.specs.declared.Link.the-variants.{Mem}
+use Rattle.logic.specs.Syntax.{app, nil, link, Clause}
+use Rattle.logic.specs.Terms.{count, termsOf}
+use Rattle.logic.specs.Each.{eachTerm, eachAtom, declares, never, allowed, groundTerm, groundAtom}
+use Rattle.logic.specs.Fill.{fill, fillAtom, fillLiteral, fillClause}
+use Rattle.logic.specs.Structure.{Structure, Reading, plainly, SatisfiesLiteral, SomeLiteral, Satisfies, Grounds, Models, ModelsAll}
+use Rattle.logic.proofs.Both.{both}
+use Rattle.logic.proofs.Every.{everything, everything-holds}
+use Rattle.reader.specs.Figures.{Figures, office}
+use Rattle.verdict.specs.declared.Verdict.the-variants.{Refuted}
+use Rattle.verdict.specs.Checks.{tableOf, inputsOf}
+use Rattle.verdict.specs.Answer.{verdict}
+use Rattle.verdict.specs.Corners.{refutedText, openText, refusedText}
+use Rattle.verdict.proofs.Corners.{modelled, computed}
+use Rattle.verdict.proofs.Guaranteed.{guaranteed}
+
+pub modelled-not-refuted : (F : Figures) (text : List ℕ) (R : Reading) (S : Structure (tableOf F text)) → ModelsAll R S (inputsOf F text) →
+    (count first : ℕ) → verdict F text ≡ Refuted count first → ⊥
+modelled-not-refuted F text R S m count first e = guaranteed F text .refuted count first e R S m
+
+-- refuted: no structure satisfies the inputs, however "satisfies" is read.
+pub refuted-example : (R : Reading) (S : Structure (tableOf office refutedText)) → ModelsAll R S (inputsOf office refutedText) → ⊥
+refuted-example = guaranteed office refutedText .refuted 3 2 (computed .refuted-text)
+
+-- The set of all ground atoms satisfies the inputs of the open and of the refused text.
+every-models : ModelsAll plainly (everything (0 ∷ [])) modelled
+unfolding ModelsAll Models Satisfies plainly SomeLiteral SatisfiesLiteral fillClause fillLiteral fillAtom fill groundAtom allowed eachAtom eachTerm termsOf Grounds groundTerm count declares
+every-models =
+    (λ γ g. inl (everything-holds (0 ∷ []) (link Mem (γ 0) (app 0 nil)) (both (eachTerm never (declares (0 ∷ [])) (γ 0)) true (g 0) tt)), tt)
+
+abbrev Modelled : List ℕ → List Clause → Type 1
+Modelled table inputs = (S : Structure table) × ModelsAll plainly S inputs
+
+pub open-example : Modelled (tableOf office openText) (inputsOf office openText)
+open-example = subst₂ Modelled (sym (computed .open-table)) (sym (computed .open-inputs)) (everything (0 ∷ []), every-models)
+
+pub refused-example : Modelled (tableOf office refusedText) (inputsOf office refusedText)
+refused-example = subst₂ Modelled (sym (computed .refused-table)) (sym (computed .refused-inputs)) (everything (0 ∷ []), every-models)
