@@ -137,10 +137,9 @@ module _ (table : List ℕ) where
   value-parts : (a : Arrow) (o m : Term) (ts : Terms) (r : Term) → T (groundAtom table (method a o m ts (value r))) → T (G o) × T (G m) × T (Gs ts) × T (G r)
   value-parts a o m ts r h = let w = method-parts a o m ts (value r) h in (w .0, w .1, w .2, part-value r (w .3))
 
-  pub everything : Structure table
+  pub everything : Structure table (λ x. T (groundAtom table x))
   unfolding groundTerm
   everything = record {
-    holds = λ x. T (groundAtom table x);
     ground = λ h. h;
     eq-refl = λ t h. link-ground Eq t t h h;
     sub-refl = λ t h. link-ground Sub t t h h;
@@ -155,7 +154,3 @@ module _ (table : List ℕ) where
     scalar-eq = λ {g} {o} {m} {r} {s} {ts} t h w. link-ground Eq r s (value-parts g o m ts r h .3) (value-parts g o m ts s w .3);
     none-holds = λ {x} h. bare-ground x h;
   }
-
-pub everything-holds : (table : List ℕ) (x : Atom) → T (groundAtom table x) → everything table .holds x
-unfolding everything
-everything-holds table x h = h

@@ -59,23 +59,23 @@ module _ (S : Atom → Type 0) where
   some-right [] d h = h
   some-right (l ∷ c) d h = inr (some-right c d h)
 
-module _ {table : List ℕ} (S : Structure table) where
-  covers-holds : {x y : Atom} → Covers x y → S .holds x → S .holds y
+module _ {table : List ℕ} (H : Atom → Type 0) (S : Structure table H) where
+  covers-holds : {x y : Atom} → Covers x y → H x → H y
   unfolding Covers
-  covers-holds (inl e) h = subst (S .holds) e h
-  covers-holds (inr e) h = subst (S .holds) e (S .none-holds h)
+  covers-holds (inl e) h = subst H e h
+  covers-holds (inr e) h = subst H e (S .none-holds h)
 
-  eq-ground : {a b : Term} → S .holds (link Eq a b) → T (groundTerm table a)
+  eq-ground : {a b : Term} → H (link Eq a b) → T (groundTerm table a)
   unfolding groundAtom groundTerm eachAtom eachTerm termsOf allowed
   eq-ground {a} {b} h = left (eachTerm never (declares table) a) (eachTerm never (declares table) b && true) (S .ground h)
 
-  eq-sym : {a b : Term} → S .holds (link Eq a b) → S .holds (link Eq b a)
+  eq-sym : {a b : Term} → H (link Eq a b) → H (link Eq b a)
   unfolding ReplacedAtom termsOf withTerms nth entryOr
   eq-sym {a} {b} h = S .replace h (S .eq-refl a (eq-ground h)) (cons b (cons a nil), ReplacedIn.now (Replaced.here refl refl), refl)
 
   -- Replacing an occurrence by an equal term keeps a literal satisfied, of either sign.
   replaced-sound : (σ : Substitution) (u : Term) {s : Term} (l : Literal) {l′ : Literal} (k : ℕ) → findLiteral σ u l k ≡ found s l′ →
-      S .holds (link Eq s u) → SatisfiesLiteral (S .holds) (fillLiteral σ l) → SatisfiesLiteral (S .holds) l′
+      H (link Eq s u) → SatisfiesLiteral H (fillLiteral σ l) → SatisfiesLiteral H l′
   unfolding findLiteral fillLiteral SatisfiesLiteral
   replaced-sound σ u (lit Positive x) k e q h =
       found-map (lit Positive) (findAtom σ u x k) e (λ y e₁ e₂. rw (← e₂) (S .replace q h (atom-replaced σ u x k e₁)))
@@ -83,17 +83,17 @@ module _ {table : List ℕ} (S : Structure table) where
       found-map (lit Negative) (findAtom σ u x k) e (λ y e₁ e₂. rw (← e₂) (λ w. h (S .replace (eq-sym q) w (atom-back s u (fillAtom σ x) y (atom-replaced σ u x k e₁)))))
 
   row-sound : {k : ℕ} {rule : Rule} {l m : Literal} {g : Agreement} {new : Clause} → Row k rule l m g new → Holds g →
-      SatisfiesLiteral (S .holds) l → SatisfiesLiteral (S .holds) m → SomeLiteral (S .holds) new
+      SatisfiesLiteral H l → SatisfiesLiteral H m → SomeLiteral H new
   unfolding Holds SatisfiesLiteral SomeLiteral
   row-sound Row.res e h h′ = h (covers-holds e h′)
-  row-sound (Row.acy {p = p} {q = q} {p′ = p′} {q′ = q′}) e h h′ = let w : link Sub q′ p′ ≡ link Sub q p = cc in inl (S .sub-antisym h (subst (S .holds) w h′))
-  row-sound (Row.tra {q = q} {q′ = q′} {r = r}) e h h′ = let w : link Sub q′ r ≡ link Sub q r = cc in inl (S .sub-trans h (subst (S .holds) w h′))
-  row-sound (Row.inc {q = q} {q′ = q′} {r = r}) e h h′ = let w : link Sub q′ r ≡ link Sub q r = cc in inl (S .mem-sub h (subst (S .holds) w h′))
-  row-sound (Row.inh {p = p} {p′ = p′} {s = s} t) e h h′ = let w : link Sub s p′ ≡ link Sub s p = cc in inl (S .sub-object t h (subst (S .holds) w h′))
-  row-sound (Row.inp {q = q} {q′ = q′} {s = s} t p) e h h′ = let w : link Sub s q′ ≡ link Sub s q = cc in inl (S .sub-argument t h p (subst (S .holds) w h′))
-  row-sound (Row.out {r = r} {r′ = r′} {s = s} t) e h h′ = let w : link Sub r′ s ≡ link Sub r s = cc in inl (S .sub-result t h (subst (S .holds) w h′))
+  row-sound (Row.acy {p = p} {q = q} {p′ = p′} {q′ = q′}) e h h′ = let w : link Sub q′ p′ ≡ link Sub q p = cc in inl (S .sub-antisym h (subst H w h′))
+  row-sound (Row.tra {q = q} {q′ = q′} {r = r}) e h h′ = let w : link Sub q′ r ≡ link Sub q r = cc in inl (S .sub-trans h (subst H w h′))
+  row-sound (Row.inc {q = q} {q′ = q′} {r = r}) e h h′ = let w : link Sub q′ r ≡ link Sub q r = cc in inl (S .mem-sub h (subst H w h′))
+  row-sound (Row.inh {p = p} {p′ = p′} {s = s} t) e h h′ = let w : link Sub s p′ ≡ link Sub s p = cc in inl (S .sub-object t h (subst H w h′))
+  row-sound (Row.inp {q = q} {q′ = q′} {s = s} t p) e h h′ = let w : link Sub s q′ ≡ link Sub s q = cc in inl (S .sub-argument t h p (subst H w h′))
+  row-sound (Row.out {r = r} {r′ = r′} {s = s} t) e h h′ = let w : link Sub r′ s ≡ link Sub r s = cc in inl (S .sub-result t h (subst H w h′))
   row-sound (Row.sca {a = a} {b = b} {o = o} {m = m} {o′ = o′} {m′ = m′} {r′ = r′} {ts = ts} {ts′ = ts′} t t′) e h h′ =
-      let w : method b o′ m′ ts′ (value r′) ≡ method a o m ts (value r′) = cc in inl (S .scalar-eq t h (subst (S .holds) w h′))
+      let w : method b o′ m′ ts′ (value r′) ≡ method a o m ts (value r′) = cc in inl (S .scalar-eq t h (subst H w h′))
 
   obj-ground : (p : Term) → T (eachClause never (declares table) (minus (obj p) ∷ [])) → T (groundTerm table p)
   unfolding eachClause eachAtom eachTerm termsOf groundTerm
@@ -101,20 +101,20 @@ module _ {table : List ℕ} (S : Structure table) where
 
   -- A rule with two parents, one satisfied literal of each in hand.
   two-sound : {i j k : ℕ} {rule : Rule} {l m : Literal} {g : Agreement} {new a b r r′ : Clause} → At i l a r → At j m b r′ → Row k rule l m g new → Holds g →
-      SomeLiteral (S .holds) a → SomeLiteral (S .holds) b → SomeLiteral (S .holds) (new ++ (r ++ r′))
-  two-sound {l = l} {m} {new = new} {r = r} {r′} p q w e h h′ = go (at-split (S .holds) p h) (at-split (S .holds) q h′)
+      SomeLiteral H a → SomeLiteral H b → SomeLiteral H (new ++ (r ++ r′))
+  two-sound {l = l} {m} {new = new} {r = r} {r′} p q w e h h′ = go (at-split H p h) (at-split H q h′)
     where
-      go : SatisfiesLiteral (S .holds) l ⊎ SomeLiteral (S .holds) r → SatisfiesLiteral (S .holds) m ⊎ SomeLiteral (S .holds) r′ → SomeLiteral (S .holds) (new ++ (r ++ r′))
-      go (inl x) (inl y) = some-left (S .holds) new (r ++ r′) (row-sound w e x y)
-      go (inl x) (inr y) = some-right (S .holds) new (r ++ r′) (some-right (S .holds) r r′ y)
-      go (inr x) y = some-right (S .holds) new (r ++ r′) (some-left (S .holds) r r′ x)
+      go : SatisfiesLiteral H l ⊎ SomeLiteral H r → SatisfiesLiteral H m ⊎ SomeLiteral H r′ → SomeLiteral H (new ++ (r ++ r′))
+      go (inl x) (inl y) = some-left H new (r ++ r′) (row-sound w e x y)
+      go (inl x) (inr y) = some-right H new (r ++ r′) (some-right H r r′ y)
+      go (inr x) y = some-right H new (r ++ r′) (some-left H r r′ x)
 
   par-sound : (A B : Parent) (k : ℕ) {i j : ℕ} {l l′ : Literal} {s s′ u : Term} {r r′ : Clause} →
       At i l (A .clause) r → At j (plus (link Eq s′ u)) (filled B) r′ → findLiteral (A .image) u l k ≡ found s l′ → Holds (equal (one s) (one s′)) →
-      SomeLiteral (S .holds) (filled A) → SomeLiteral (S .holds) (filled B) → SomeLiteral (S .holds) (l′ ∷ (fillClause (A .image) r ++ r′))
+      SomeLiteral H (filled A) → SomeLiteral H (filled B) → SomeLiteral H (l′ ∷ (fillClause (A .image) r ++ r′))
   unfolding Holds filled SomeLiteral SatisfiesLiteral
   par-sound A B k {l = l} {l′} {s} {s′} {u} {r} {r′} p q e w h h′ =
-      go (at-split (S .holds) (at-fill (A .image) p) h) (at-split (S .holds) q h′)
+      go (at-split H (at-fill (A .image) p) h) (at-split H q h′)
     where
       σ : Substitution
       σ = A .image
@@ -122,34 +122,34 @@ module _ {table : List ℕ} (S : Structure table) where
       same : link Eq s′ u ≡ link Eq s u
       same = cc
 
-      go : SatisfiesLiteral (S .holds) (fillLiteral σ l) ⊎ SomeLiteral (S .holds) (fillClause σ r) → S .holds (link Eq s′ u) ⊎ SomeLiteral (S .holds) r′ →
-          SatisfiesLiteral (S .holds) l′ ⊎ SomeLiteral (S .holds) (fillClause σ r ++ r′)
-      go (inl x) (inl y) = inl (replaced-sound σ u l k e (subst (S .holds) same y) x)
-      go (inl x) (inr y) = inr (some-right (S .holds) (fillClause σ r) r′ y)
-      go (inr x) y = inr (some-left (S .holds) (fillClause σ r) r′ x)
+      go : SatisfiesLiteral H (fillLiteral σ l) ⊎ SomeLiteral H (fillClause σ r) → H (link Eq s′ u) ⊎ SomeLiteral H r′ →
+          SatisfiesLiteral H l′ ⊎ SomeLiteral H (fillClause σ r ++ r′)
+      go (inl x) (inl y) = inl (replaced-sound σ u l k e (subst H same y) x)
+      go (inl x) (inr y) = inr (some-right H (fillClause σ r) r′ y)
+      go (inr x) y = inr (some-left H (fillClause σ r) r′ x)
 
   -- Factoring: the literal that goes is covered by, or covers, the one that stays.
-  fac-plus : {i j : ℕ} {x y : Atom} {c r r′ : Clause} → At i (plus x) c r → At j (plus y) c r′ → (i ≡ j → ⊥) → Covers y x → SomeLiteral (S .holds) c → SomeLiteral (S .holds) r′
+  fac-plus : {i j : ℕ} {x y : Atom} {c r r′ : Clause} → At i (plus x) c r → At j (plus y) c r′ → (i ≡ j → ⊥) → Covers y x → SomeLiteral H c → SomeLiteral H r′
   unfolding SatisfiesLiteral
-  fac-plus {y = y} {r′ = r′} p q n e h = go (at-split (S .holds) q h)
+  fac-plus {y = y} {r′ = r′} p q n e h = go (at-split H q h)
     where
-      go : S .holds y ⊎ SomeLiteral (S .holds) r′ → SomeLiteral (S .holds) r′
-      go (inl w) = at-other (S .holds) p q n (covers-holds e w)
+      go : H y ⊎ SomeLiteral H r′ → SomeLiteral H r′
+      go (inl w) = at-other H p q n (covers-holds e w)
       go (inr w) = w
 
-  fac-minus : {i j : ℕ} {x y : Atom} {c r r′ : Clause} → At i (minus x) c r → At j (minus y) c r′ → (i ≡ j → ⊥) → Covers y x → SomeLiteral (S .holds) c → SomeLiteral (S .holds) r
+  fac-minus : {i j : ℕ} {x y : Atom} {c r r′ : Clause} → At i (minus x) c r → At j (minus y) c r′ → (i ≡ j → ⊥) → Covers y x → SomeLiteral H c → SomeLiteral H r
   unfolding SatisfiesLiteral
-  fac-minus {x = x} {r = r} p q n e h = go (at-split (S .holds) p h)
+  fac-minus {x = x} {r = r} p q n e h = go (at-split H p h)
     where
-      go : (S .holds x → ⊥) ⊎ SomeLiteral (S .holds) r → SomeLiteral (S .holds) r
-      go (inl w) = at-other (S .holds) q p (λ h. n (sym h)) (λ v. w (covers-holds e v))
+      go : (H x → ⊥) ⊎ SomeLiteral H r → SomeLiteral H r
+      go (inl w) = at-other H q p (λ h. n (sym h)) (λ v. w (covers-holds e v))
       go (inr w) = w
 
-  eli-sound : {i : ℕ} {p : Term} {c r : Clause} → At i (minus (obj p)) c r → T (eachClause never (declares table) c) → SomeLiteral (S .holds) c → SomeLiteral (S .holds) r
+  eli-sound : {i : ℕ} {p : Term} {c r : Clause} → At i (minus (obj p)) c r → T (eachClause never (declares table) c) → SomeLiteral H c → SomeLiteral H r
   unfolding SatisfiesLiteral
-  eli-sound {p = p} {r = r} q g h = go (at-split (S .holds) q h)
+  eli-sound {p = p} {r = r} q g h = go (at-split H q h)
     where
-      go : (S .holds (obj p) → ⊥) ⊎ SomeLiteral (S .holds) r → SomeLiteral (S .holds) r
+      go : (H (obj p) → ⊥) ⊎ SomeLiteral H r → SomeLiteral H r
       go (inl w) = absurd (w (S .obj-all p (obj-ground p (at-each never (declares table) q g))))
       go (inr w) = w
 
@@ -168,8 +168,8 @@ module _ {table : List ℕ} (S : Structure table) where
   pub infers-sound : (R : Reading) (A B : Parent) {i j k : ℕ} {rule : Rule} {g : Agreement} {c : Clause} →
       T (eachClause never (declares table) (filled A)) → T (groundTerm table (A .image 0)) →
       Infers A B i j k rule g c → Holds g →
-      (T (uses rule .a) → R .read (SomeLiteral (S .holds) (filled A))) → (T (uses rule .b) → R .read (SomeLiteral (S .holds) (filled B))) →
-      R .read (SomeLiteral (S .holds) c)
+      (T (uses rule .a) → R .read (SomeLiteral H (filled A))) → (T (uses rule .b) → R .read (SomeLiteral H (filled B))) →
+      R .read (SomeLiteral H c)
   unfolding uses Holds SomeLiteral SatisfiesLiteral
   infers-sound R A B ground zero-ground Infers.refl e a b = R .return (inl (S .sub-refl (A .image 0) zero-ground))
   infers-sound R A B ground zero-ground (Infers.fac⁺ p q n) e a b = R .bind (a tt) (λ h. R .return (fac-plus p q n e h))

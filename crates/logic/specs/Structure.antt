@@ -15,8 +15,8 @@ use Rattle.logic.specs.Occurrence.{ReplacedAtom}
 use Rattle.logic.specs.Rules.{bare, signature, scalar, Placed}
 
 -- "A set of ground (variable-free) atoms over the symbol table, term depth unlimited, arguments in any number, such that:"
-pub record Structure (table : List ℕ) : Type 1 where
-  pub holds : Atom → Type 0
+-- `holds x` says that x is in the set.
+pub record Structure (table : List ℕ) (holds : Atom → Type 0) : Type 0 where
   pub ground : {x : Atom} → holds x → T (groundAtom table x)
   -- "eq(t,t), sub(t,t) and obj(t) are in it for every ground t"
   pub eq-refl : (t : Term) → T (groundTerm table t) → holds (link Eq t t)
@@ -85,9 +85,9 @@ unfoldable pub Grounds : List ℕ → Substitution → Type 0
 Grounds table γ = (n : ℕ) → T (groundTerm table (γ n))
 
 -- The structure satisfies every ground instance of a clause, and of each clause of a list.
-unfoldable pub Models : Reading → {table : List ℕ} → Structure table → Clause → Type 0
-Models R {table} S c = (γ : Substitution) → Grounds table γ → Satisfies R (S .holds) (fillClause γ c)
+unfoldable pub Models : Reading → List ℕ → (Atom → Type 0) → Clause → Type 0
+Models R table S c = (γ : Substitution) → Grounds table γ → Satisfies R S (fillClause γ c)
 
-unfoldable pub ModelsAll : Reading → {table : List ℕ} → Structure table → List Clause → Type 0
-ModelsAll R S [] = Unit
-ModelsAll R S (c ∷ cs) = Models R S c × ModelsAll R S cs
+unfoldable pub ModelsAll : Reading → List ℕ → (Atom → Type 0) → List Clause → Type 0
+ModelsAll R table S [] = Unit
+ModelsAll R table S (c ∷ cs) = Models R table S c × ModelsAll R table S cs

@@ -6,7 +6,7 @@ use mathlib.Core.Path.{_≡_, refl, sym, ap, subst, _∙_}
 use native.Mathlib.Omega.{arith}
 use lib.Dec.{T, eqb, eqb→eq, eqb-refl}
 use lib.ListN.{length, getD}
-use Rattle.logic.specs.Syntax.{Term, app, Terms, nil, Clause, Step, Line, sym as symLine, input, by}
+use Rattle.logic.specs.Syntax.{Term, app, Atom, Terms, nil, Clause, Step, Line, sym as symLine, input, by}
 use Rattle.logic.specs.Terms.{count}
 use Rattle.logic.specs.Each.{eachTerm, eachTerms, eachClause, declares, any, groundTerm}
 use Rattle.logic.specs.Fill.{Substitution, fillClause}
@@ -80,14 +80,14 @@ unfolding stateOf fresh AllGiven eachClause
 accepted-good F text a = good-all F fresh (readings F text) (record { inputs-over = λ n. tt; given = tt }) (a .passes)
 
 -- Each clause of a list is satisfied.
-module _ (R : Reading) {table : List ℕ} (S : Structure table) where
-  models-each : (cs : List Clause) → ModelsAll R S cs → (n : ℕ) → n < length cs → Models R S (getD cs n [])
+module _ (R : Reading) (table : List ℕ) (H : Atom → Type 0) where
+  models-each : (cs : List Clause) → ModelsAll R table H cs → (n : ℕ) → n < length cs → Models R table H (getD cs n [])
   unfolding ModelsAll
   models-each [] m n h = absurd (omega arith)
   models-each (c ∷ cs) m zero h = m .0
   models-each (c ∷ cs) m (suc n) h = models-each cs (m .1) n (omega arith)
 
-  each-models : (cs : List Clause) → ((n : ℕ) → n < length cs → Models R S (getD cs n [])) → ModelsAll R S cs
+  each-models : (cs : List Clause) → ((n : ℕ) → n < length cs → Models R table H (getD cs n [])) → ModelsAll R table H cs
   unfolding ModelsAll
   each-models [] m = tt
   each-models (c ∷ cs) m = (m 0 (omega arith), each-models cs (λ n h. m (suc n) (omega arith)))
@@ -97,15 +97,15 @@ unfolding ClosedUnderParents
 all-closed cs [] = tt
 all-closed cs (s ∷ ss) = (λ h. (λ u. tt, λ u. tt), all-closed (cs ++ (s .claim ∷ [])) ss)
 
-pub accepted-entails : (F : Figures) (text : List ℕ) → Accepted F text → (R : Reading) (S : Structure (tableOf F text)) →
-    ModelsAll R S (inputsOf F text) → ModelsAll R S (clausesOf F text)
+pub accepted-entails : (F : Figures) (text : List ℕ) → Accepted F text → (R : Reading) (H : Atom → Type 0) → Structure (tableOf F text) H →
+    ModelsAll R (tableOf F text) H (inputsOf F text) → ModelsAll R (tableOf F text) H (clausesOf F text)
 unfolding tableOf inputsOf clausesOf clauses
-accepted-entails F text a R S m =
+accepted-entails F text a R H S m =
     let st = stateOf F text in
     let g = accepted-good F text a in
-    each-models R S (st .inputs ++ map claimOf (st .steps)) (λ n h.
-    steps-sound R S (λ n. Unit) (st .inputs) (st .steps) (g .inputs-over) (g .given) (all-closed (st .inputs) (st .steps))
-    (λ n h u. models-each R S (st .inputs) m n h) n h tt)
+    each-models R (st .symbols) H (st .inputs ++ map claimOf (st .steps)) (λ n h.
+    steps-sound R H S (λ n. Unit) (st .inputs) (st .steps) (g .inputs-over) (g .given) (all-closed (st .inputs) (st .steps))
+    (λ n h u. models-each R (st .symbols) H (st .inputs) m n h) n h tt)
 
 -- A table with a symbol without arguments has a ground term.
 constant-declared : (table : List ℕ) → T (hasConstant table) → (f : ℕ) × T (declares table f 0)
@@ -128,12 +128,12 @@ empty-clause n [] h = absurd h
 empty-clause zero (c ∷ cs) h = (omega arith, h)
 empty-clause (suc n) (c ∷ cs) h = let w = empty-clause n cs (h .1) in (omega arith, w .1)
 
-pub refuted-none : (F : Figures) (text : List ℕ) (n : ℕ) → Accepted F text → FirstEmpty n (clausesOf F text) → (R : Reading) (S : Structure (tableOf F text)) →
-    ModelsAll R S (inputsOf F text) → ⊥
+pub refuted-none : (F : Figures) (text : List ℕ) (n : ℕ) → Accepted F text → FirstEmpty n (clausesOf F text) → (R : Reading) (H : Atom → Type 0) → Structure (tableOf F text) H →
+    ModelsAll R (tableOf F text) H (inputsOf F text) → ⊥
 unfolding Models Satisfies fillClause SomeLiteral
-refuted-none F text n a e R S m =
+refuted-none F text n a e R H S m =
     let w = empty-clause n (clausesOf F text) e in
-    let k = models-each R S (clausesOf F text) (accepted-entails F text a R S m) n (w .0) in
+    let k = models-each R (tableOf F text) H (clausesOf F text) (accepted-entails F text a R H S m) n (w .0) in
     let g = ground-substitution (tableOf F text) (a .constant) in
-    let none : Models R S [] = rw (w .1) at k in
+    let none : Models R (tableOf F text) H [] = rw (w .1) at k in
     R .consistent (none (g .0) (g .1))

@@ -5,6 +5,7 @@ use mathlib.Core.List.{List}
 use mathlib.Core.Logic.{_↔_}
 use mathlib.Core.Path.{_≡_, refl, sym, subst}
 use lib.Dec.{T}
+use Rattle.logic.specs.Structure.{Reading}
 use Rattle.reader.specs.Figures.{Figures}
 use Rattle.verdict.specs.declared.Verdict.{Verdict}
 use Rattle.verdict.specs.declared.Verdict.the-variants.{Refuted, Open, Refused}
@@ -40,11 +41,13 @@ module _ (F : Figures) (text : List ℕ) where
   unfolding Means
   accepted-refuted count first m = m .0
 
-  -- Demand 3, for every text, broken or not.
-  pub guaranteed : Guarantee F text (verdict F text)
-  guaranteed = record {
-    refuted = λ count first e. let m = verdict-exactly F text (Refuted count first) .0 e in refuted-none F text first (accepted-refuted count first m) (first-of count first m);
-    entailed = λ h. accepted-entails F text (accepted-exactly .0 h);
+  -- Demand 3, for every text, broken or not, every reading of "satisfies" and every kind of set.
+  pub guaranteed : (R : Reading) {Value : Type 0} (True : Value → Type 0) → Guarantee R True F text (verdict F text)
+  guaranteed R True = record {
+    refuted = λ count first e S.
+        let m = verdict-exactly F text (Refuted count first) .0 e in
+        refuted-none F text first (accepted-refuted count first m) (first-of count first m) R (λ x. True (S x));
+    entailed = λ h S. accepted-entails F text (accepted-exactly .0 h) R (λ x. True (S x));
     accepts = λ w. accepted-exactly .1 (written-accepted F text w);
   }
 

@@ -6,13 +6,13 @@ use mathlib.Core.Logic.{inl}
 use mathlib.Core.Path.{_≡_, sym, subst₂}
 use lib.Dec.{T}
 use Rattle.logic.specs.declared.Link.the-variants.{Mem}
-use Rattle.logic.specs.Syntax.{app, nil, link, Clause}
+use Rattle.logic.specs.Syntax.{Atom, app, nil, link, Clause}
 use Rattle.logic.specs.Terms.{count, termsOf}
 use Rattle.logic.specs.Each.{eachTerm, eachAtom, declares, never, allowed, groundTerm, groundAtom}
 use Rattle.logic.specs.Fill.{fill, fillAtom, fillLiteral, fillClause}
 use Rattle.logic.specs.Structure.{Structure, Reading, plainly, SatisfiesLiteral, SomeLiteral, Satisfies, Grounds, Models, ModelsAll}
 use Rattle.logic.proofs.Both.{both}
-use Rattle.logic.proofs.Every.{everything, everything-holds}
+use Rattle.logic.proofs.Every.{everything}
 use Rattle.reader.specs.Figures.{Figures, office}
 use Rattle.verdict.specs.declared.Verdict.the-variants.{Refuted}
 use Rattle.verdict.specs.Checks.{tableOf, inputsOf}
@@ -21,22 +21,24 @@ use Rattle.verdict.specs.Corners.{refutedText, openText, refusedText}
 use Rattle.verdict.proofs.Corners.{modelled, computed}
 use Rattle.verdict.proofs.Guaranteed.{guaranteed}
 
-pub modelled-not-refuted : (F : Figures) (text : List ℕ) (R : Reading) (S : Structure (tableOf F text)) → ModelsAll R S (inputsOf F text) →
-    (count first : ℕ) → verdict F text ≡ Refuted count first → ⊥
-modelled-not-refuted F text R S m count first e = guaranteed F text .refuted count first e R S m
+pub modelled-not-refuted : (F : Figures) (text : List ℕ) (R : Reading) (H : Atom → Type 0) → Structure (tableOf F text) H →
+    ModelsAll R (tableOf F text) H (inputsOf F text) → (count first : ℕ) → verdict F text ≡ Refuted count first → ⊥
+modelled-not-refuted F text R H S m count first e = guaranteed F text R H .refuted count first e (λ x. x) S m
 
 -- refuted: no structure satisfies the inputs, however "satisfies" is read.
-pub refuted-example : (R : Reading) (S : Structure (tableOf office refutedText)) → ModelsAll R S (inputsOf office refutedText) → ⊥
-refuted-example = guaranteed office refutedText .refuted 3 2 (computed .refuted-text)
+pub refuted-example : (R : Reading) (H : Atom → Type 0) → Structure (tableOf office refutedText) H → ModelsAll R (tableOf office refutedText) H (inputsOf office refutedText) → ⊥
+refuted-example R H S m = modelled-not-refuted office refutedText R H S m 3 2 (computed .refuted-text)
 
 -- The set of all ground atoms satisfies the inputs of the open and of the refused text.
-every-models : ModelsAll plainly (everything (0 ∷ [])) modelled
-unfolding ModelsAll Models Satisfies plainly SomeLiteral SatisfiesLiteral fillClause fillLiteral fillAtom fill groundAtom allowed eachAtom eachTerm termsOf Grounds groundTerm count declares
-every-models =
-    (λ γ g. inl (everything-holds (0 ∷ []) (link Mem (γ 0) (app 0 nil)) (both (eachTerm never (declares (0 ∷ [])) (γ 0)) true (g 0) tt)), tt)
+abbrev Ground : List ℕ → Atom → Type 0
+Ground table x = T (groundAtom table x)
 
-abbrev Modelled : List ℕ → List Clause → Type 1
-Modelled table inputs = (S : Structure table) × ModelsAll plainly S inputs
+every-models : ModelsAll plainly (0 ∷ []) (Ground (0 ∷ [])) modelled
+unfolding ModelsAll Models Satisfies plainly SomeLiteral SatisfiesLiteral fillClause fillLiteral fillAtom fill groundAtom allowed eachAtom eachTerm termsOf Grounds groundTerm count declares
+every-models = (λ γ g. inl (both (eachTerm never (declares (0 ∷ [])) (γ 0)) true (g 0) tt), tt)
+
+abbrev Modelled : List ℕ → List Clause → Type 0
+Modelled table inputs = Structure table (Ground table) × ModelsAll plainly table (Ground table) inputs
 
 pub open-example : Modelled (tableOf office openText) (inputsOf office openText)
 open-example = subst₂ Modelled (sym (computed .open-table)) (sym (computed .open-inputs)) (everything (0 ∷ []), every-models)

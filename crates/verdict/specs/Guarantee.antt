@@ -4,7 +4,7 @@ use mathlib.Core.Bool.{Bool, true, false, not}
 use mathlib.Core.List.{List, [], _∷_}
 use mathlib.Core.Path.{_≡_}
 use lib.Dec.{T}
-use Rattle.logic.specs.Syntax.{Clause, Line}
+use Rattle.logic.specs.Syntax.{Atom, Clause, Line}
 use Rattle.logic.specs.Structure.{Structure, Reading, ModelsAll}
 use Rattle.logic.specs.Derivation.{Derivation, WrittenForm}
 use Rattle.reader.specs.Write.{writeLines}
@@ -40,13 +40,15 @@ pub record WrittenText (F : Figures) (text : List ℕ) : Type 0 where
   pub bytes : text ≡ writeLines lines
   pub within : Within F lines
 
--- "For every text, broken or not": `Reading` is how "satisfies" is read, and every reading will do.
-pub record Guarantee (F : Figures) (text : List ℕ) (v : Verdict) : Type 1 where
+-- "For every text, broken or not". R is how "satisfies" is read. A set of atoms gives each atom a value, and `True` says which values
+-- mean that the atom is in it: with Bool and T the sets given by tests, with Atom and any predicate on atoms all sets.
+pub record Guarantee (R : Reading) {Value : Type 0} (True : Value → Type 0) (F : Figures) (text : List ℕ) (v : Verdict) : Type 0 where
   -- "if it is answered refuted, no H-structure over its symbol table satisfies all ground instances of its input clauses"
   pub refuted : (count first : ℕ) → v ≡ Refuted count first →
-      (R : Reading) (S : Structure (tableOf F text)) → ModelsAll R S (inputsOf F text) → ⊥
+      (S : Atom → Value) → Structure (tableOf F text) (λ x. True (S x)) → ModelsAll R (tableOf F text) (λ x. True (S x)) (inputsOf F text) → ⊥
   -- "If it is accepted, each H-structure over that table that satisfies all these instances satisfies every ground instance of every clause in the text."
   pub entailed : T (isAccepted v) →
-      (R : Reading) (S : Structure (tableOf F text)) → ModelsAll R S (inputsOf F text) → ModelsAll R S (clausesOf F text)
+      (S : Atom → Value) → Structure (tableOf F text) (λ x. True (S x)) → ModelsAll R (tableOf F text) (λ x. True (S x)) (inputsOf F text) →
+      ModelsAll R (tableOf F text) (λ x. True (S x)) (clausesOf F text)
   -- "And it is accepted whenever it lies within the limits and is the written form of a finite derivation by the rules"
   pub accepts : WrittenText F text → T (isAccepted v)
