@@ -18,7 +18,7 @@ use Rattle.logic.specs.Equality.{link?}
 use Rattle.logic.specs.Fill.{fillClause}
 use Rattle.logic.specs.Occurrence.{Search, past, found, findLiteral}
 use Rattle.logic.specs.Rules.{Agreement, always, equal, covering, alike, signature, scalar, Placed, plus, minus, one, Row, Parent, filled, At, Infers}
-use Rattle.logic.specs.Judge.{Conclusion, misshapen, concludes, onAt, onPlus, onMinus, onLink, onObj, onResult, onMethod, onPlaced, onFound, onSub, onSignature, onScalar, withNew, two, conclude, conclude-res, conclude-acy, conclude-link, conclude-inh, conclude-inp, conclude-out, conclude-sca, conclude-fac, conclude-par}
+use Rattle.logic.specs.Judge.{Conclusion, misshapen, concludes, onAt, onPlus, onMinus, onLink, onObj, onResult, onMethod, onPlaced, onFound, onSub, onSignature, onScalar, withNew, before, tableRow, two, conclude, conclude-eli, conclude-res, conclude-acy, conclude-link, conclude-inh, conclude-inp, conclude-out, conclude-sca, conclude-fac, conclude-par}
 
 -- Nothing misshapen concludes.
 not-misshapen : {g : Agreement} {c : Clause} {P : Type 0} → misshapen ≡ concludes g c → P
@@ -126,25 +126,39 @@ module _ {g : Agreement} {d : Clause} {P : Type 0} where
       ((a : Arrow) (o m : Term) (ts : Terms) (r : Term) → T (p a) → l ≡ plus (method a o m ts (value r)) → f a o m ts r ≡ concludes g d → P) → P
   arrow-found p l f e k = plus-found l _ e (λ x e₁ e₂. method-found p x f e₂ (λ a o m ts r h e₃. k a o m ts r h (e₁ ∙ ap plus e₃)))
 
-two-finds : (A B : Parent) {i j : ℕ} {l m : Literal} {r r′ : Clause} (f : Literal → Literal → Clause → Conclusion) →
-    At i l (filled A) r → At j m (filled B) r′ → two A B i j f ≡ f l m (r ++ r′)
+two-finds : (A B : Parent) {i j : ℕ} {l m : Literal} {r r′ : Clause} (f : Literal → Literal → Conclusion) →
+    At i l (filled A) r → At j m (filled B) r′ → two A B i j f ≡ before (f l m) (r ++ r′)
 unfolding two
 two-finds A B {i} {j} {l} {m} {r} {r′} f p q =
-    at-finds (λ l r. onAt j (filled B) (λ m r′. f l m (r ++ r′))) p ∙ at-finds (λ m r′. f l m (r ++ r′)) q
+    at-finds (λ l r. onAt j (filled B) (λ m r′. before (f l m) (r ++ r′))) p ∙ at-finds (λ m r′. before (f l m) (r ++ r′)) q
 
--- The row of a rule with two parents is what its function concludes.
-row-concludes : (A B : Parent) (i j k : ℕ) {rule : Rule} {l m : Literal} {g : Agreement} {new r r′ : Clause} →
-    At i l (filled A) r → At j m (filled B) r′ → Row k rule l m g new → conclude A B i j k rule ≡ concludes g (new ++ (r ++ r′))
-unfolding conclude conclude-res conclude-acy conclude-link conclude-inh conclude-inp conclude-out conclude-sca onSub onSignature onScalar onPlus onMinus
-row-concludes A B i j k p q Row.res = two-finds A B conclude-res p q
-row-concludes A B i j k p q Row.acy = two-finds A B conclude-acy p q ∙ (link-finds Sub _ _ _ ∙ link-finds Sub _ _ _)
-row-concludes A B i j k p q Row.tra = two-finds A B (conclude-link Sub) p q ∙ (link-finds Sub _ _ _ ∙ link-finds Sub _ _ _)
-row-concludes A B i j k p q Row.inc = two-finds A B (conclude-link Mem) p q ∙ (link-finds Mem _ _ _ ∙ link-finds Sub _ _ _)
-row-concludes A B i j k p q (Row.inh h) = two-finds A B conclude-inh p q ∙ (method-finds signature _ _ _ _ _ _ h ∙ link-finds Sub _ _ _)
-row-concludes A B i j k p q (Row.inp h w) =
-    two-finds A B (conclude-inp k) p q ∙ (method-finds signature _ _ _ _ _ _ h ∙ (link-finds Sub _ _ _ ∙ placed-finds _ w))
-row-concludes A B i j k p q (Row.out h) = two-finds A B conclude-out p q ∙ (method-finds signature _ _ _ _ _ _ h ∙ link-finds Sub _ _ _)
-row-concludes A B i j k p q (Row.sca h h′) = two-finds A B conclude-sca p q ∙ (method-finds scalar _ _ _ _ _ _ h ∙ method-finds scalar _ _ _ _ _ _ h′)
+-- A row of the table is what its function gives.
+row-finds : {k : ℕ} {rule : Rule} {l m : Literal} {g : Agreement} {new : Clause} → Row k rule l m g new → tableRow k rule l m ≡ concludes g new
+unfolding tableRow conclude-res conclude-acy conclude-link conclude-inh conclude-inp conclude-out conclude-sca onSub onSignature onScalar onPlus onMinus
+row-finds Row.res = refl
+row-finds Row.acy = link-finds Sub _ _ _ ∙ link-finds Sub _ _ _
+row-finds Row.tra = link-finds Sub _ _ _ ∙ link-finds Sub _ _ _
+row-finds Row.inc = link-finds Mem _ _ _ ∙ link-finds Sub _ _ _
+row-finds (Row.inh h) = method-finds signature _ _ _ _ _ _ h ∙ link-finds Sub _ _ _
+row-finds (Row.inp h w) = method-finds signature _ _ _ _ _ _ h ∙ (link-finds Sub _ _ _ ∙ placed-finds _ w)
+row-finds (Row.out h) = method-finds signature _ _ _ _ _ _ h ∙ link-finds Sub _ _ _
+row-finds (Row.sca h h′) = method-finds scalar _ _ _ _ _ _ h ∙ method-finds scalar _ _ _ _ _ _ h′
+
+-- A rule with a row has two parents.
+row-two : (A B : Parent) (i j k : ℕ) {rule : Rule} {l m : Literal} {g : Agreement} {new : Clause} → Row k rule l m g new → conclude A B i j k rule ≡ two A B i j (tableRow k rule)
+unfolding conclude
+row-two A B i j k Row.res = refl
+row-two A B i j k Row.acy = refl
+row-two A B i j k Row.tra = refl
+row-two A B i j k Row.inc = refl
+row-two A B i j k (Row.inh h) = refl
+row-two A B i j k (Row.inp h w) = refl
+row-two A B i j k (Row.out h) = refl
+row-two A B i j k (Row.sca h h′) = refl
+
+before-finds : {o : Conclusion} {g : Agreement} {new : Clause} (c : Clause) → o ≡ concludes g new → before o c ≡ concludes g (new ++ c)
+unfolding before
+before-finds c e = rw e
 
 fac-finds : (A : Parent) (i j : ℕ) {l m : Literal} {r r′ : Clause} → At i l (filled A) r → At j m (filled A) r′ →
     onAt i (filled A) (λ l r. onAt j (filled A) (conclude-fac i j l r)) ≡ conclude-fac i j l r m r′
@@ -161,14 +175,16 @@ apart-positions i j x y n = go (eqb i j) (λ t. n (eqb→eq i j t))
 -- Whatever the table infers, the function concludes.
 pub infers→concludes : (A B : Parent) (i j k : ℕ) {rule : Rule} {g : Agreement} {c : Clause} →
     Infers A B i j k rule g c → conclude A B i j k rule ≡ concludes g c
-unfolding conclude conclude-fac conclude-par onPlus onMinus onObj onFound
+unfolding conclude conclude-fac conclude-par conclude-eli onPlus onMinus onObj onFound
 infers→concludes A B i j k Infers.refl = refl
 infers→concludes A B i j k (Infers.fac⁺ p q n) = fac-finds A i j p q ∙ apart-positions i j _ _ n
 infers→concludes A B i j k (Infers.fac⁻ p q n) = fac-finds A i j p q ∙ apart-positions i j _ _ n
 infers→concludes A B i j k (Infers.par {l = l} {r = r} p q e) =
-    at-finds (λ l r. onAt j (filled B) (conclude-par A k l r)) p ∙ (at-finds (conclude-par A k l r) q ∙ (link-finds Eq _ _ _ ∙ found-finds _ _ e))
+    let f : Literal → Clause → Literal → Clause → Conclusion = λ l r m r′. before (conclude-par (A .image) k l m) (fillClause (A .image) r ++ r′) in
+    at-finds (λ l r. onAt j (filled B) (f l r)) p ∙ (at-finds (f l r) q ∙ before-finds (fillClause (A .image) r ++ _) (link-finds Eq _ _ _ ∙ found-finds _ _ e))
 infers→concludes A B i j k (Infers.eli p) = at-finds _ p
-infers→concludes A B i j k (Infers.two p q w) = row-concludes A B i j k p q w
+infers→concludes A B i j k (Infers.two {r = r} {r′ = r′} p q w) =
+    row-two A B i j k w ∙ (two-finds A B (tableRow k _) p q ∙ before-finds (r ++ r′) (row-finds w))
 
 concluded : {g g′ : Agreement} {c d : Clause} → concludes g′ c ≡ concludes g d → (g′ ≡ g) × (c ≡ d)
 concluded e = (cc, cc)
@@ -181,63 +197,41 @@ differ {g} {d} {P} i j x e k = go (eqb i j) (λ n. k (λ h. n (subst (λ m. T (e
     go true k e = not-misshapen e
     go false k e = k (λ t. t) e
 
+before-found : {g : Agreement} {c d : Clause} {P : Type 0} (o : Conclusion) → before o c ≡ concludes g d → ((new : Clause) → o ≡ concludes g new → new ++ c ≡ d → P) → P
+unfolding before
+before-found misshapen e k = not-misshapen e
+before-found (concludes h new) e k = let w = concluded e in k new (ap (λ x. concludes x new) (w .0)) (w .1)
+
 -- Where a rule's function concludes, the rule has a row.
-abbrev Finds : ℕ → Agreement → Clause → Rule → (Literal → Literal → Clause → Conclusion) → Type 0
-Finds k g d rule f = (l m : Literal) (c : Clause) → f l m c ≡ concludes g d → (new : Clause) × Row k rule l m g new × (d ≡ new ++ c)
-
-module _ {k : ℕ} {g : Agreement} {d : Clause} where
+module _ {k : ℕ} {g : Agreement} {d : Clause} {l m : Literal} where
   -- A row, its literals and agreement as they were found.
-  row-found : {rule : Rule} {l l′ m m′ : Literal} {g′ : Agreement} {new : Clause} (c : Clause) → l ≡ l′ → m ≡ m′ → Row k rule l′ m′ g′ new →
-      concludes g′ (new ++ c) ≡ concludes g d → (new : Clause) × Row k rule l m g new × (d ≡ new ++ c)
-  row-found {rule} {l} {l′} {m} {m′} {g′} {new} c e₁ e₂ w e = (new, rw (e₁, e₂, ← h) w, cc)
-    where
-      h : g′ ≡ g
-      h = cc
+  row-found : {rule : Rule} {l′ m′ : Literal} {g′ : Agreement} {new : Clause} → l ≡ l′ → m ≡ m′ → Row k rule l′ m′ g′ new → concludes g′ new ≡ concludes g d → Row k rule l m g d
+  row-found e₁ e₂ w e = rw (e₁, e₂, ← concluded e .0, ← concluded e .1) w
 
-  found-res : Finds k g d Res conclude-res
-  unfolding conclude-res
-  found-res l m c e = minus-found l _ e (λ x e₁ h. plus-found m _ h (λ y e₂. row-found c e₁ e₂ Row.res))
-
-  found-acy : Finds k g d Acy conclude-acy
-  unfolding conclude-acy onSub
-  found-acy l m c e = sub-found Sub l _ e (λ p q e₁ h. sub-found Sub m _ h (λ q′ p′ e₂. row-found c e₁ e₂ Row.acy))
-
-  found-tra : Finds k g d Tra (conclude-link Sub)
-  unfolding conclude-link onSub
-  found-tra l m c e = sub-found Sub l _ e (λ p q e₁ h. sub-found Sub m _ h (λ q′ r e₂. row-found c e₁ e₂ Row.tra))
-
-  found-inc : Finds k g d Inc (conclude-link Mem)
-  unfolding conclude-link onSub
-  found-inc l m c e = sub-found Mem l _ e (λ p q e₁ h. sub-found Sub m _ h (λ q′ r e₂. row-found c e₁ e₂ Row.inc))
-
-  found-inh : Finds k g d Inh conclude-inh
-  unfolding conclude-inh onSub onSignature
-  found-inh l m c e = arrow-found signature l _ e (λ a o n ts r t e₁ h. sub-found Sub m _ h (λ s p e₂. row-found c e₁ e₂ (Row.inh t)))
-
-  found-inp : Finds k g d Inp (conclude-inp k)
-  unfolding conclude-inp onSub onSignature
-  found-inp l m c e =
+  pub table-found : (rule : Rule) → tableRow k rule l m ≡ concludes g d → Row k rule l m g d
+  unfolding tableRow conclude-res conclude-acy conclude-link conclude-inh conclude-inp conclude-out conclude-sca onSub onSignature onScalar
+  table-found Refl e = not-misshapen e
+  table-found Res e = minus-found l _ e (λ x e₁ h. plus-found m _ h (λ y e₂. row-found e₁ e₂ Row.res))
+  table-found Fac e = not-misshapen e
+  table-found Par e = not-misshapen e
+  table-found Acy e = sub-found Sub l _ e (λ p q e₁ h. sub-found Sub m _ h (λ q′ p′ e₂. row-found e₁ e₂ Row.acy))
+  table-found Tra e = sub-found Sub l _ e (λ p q e₁ h. sub-found Sub m _ h (λ q′ r e₂. row-found e₁ e₂ Row.tra))
+  table-found Inc e = sub-found Mem l _ e (λ p q e₁ h. sub-found Sub m _ h (λ q′ r e₂. row-found e₁ e₂ Row.inc))
+  table-found Inh e = arrow-found signature l _ e (λ a o n ts r t e₁ h. sub-found Sub m _ h (λ s p e₂. row-found e₁ e₂ (Row.inh t)))
+  table-found Inp e =
       arrow-found signature l _ e (λ a o n ts r t e₁ h. sub-found Sub m _ h (λ s q e₂ h₂.
-      placed-found s k ts _ h₂ (λ q′ us w. row-found c e₁ e₂ (Row.inp t w))))
-
-  found-out : Finds k g d Out conclude-out
-  unfolding conclude-out onSub onSignature
-  found-out l m c e = arrow-found signature l _ e (λ a o n ts r t e₁ h. sub-found Sub m _ h (λ r′ s e₂. row-found c e₁ e₂ (Row.out t)))
-
-  found-sca : Finds k g d Sca conclude-sca
-  unfolding conclude-sca onScalar
-  found-sca l m c e =
-      arrow-found scalar l _ e (λ a o n ts r t e₁ h. arrow-found scalar m _ h (λ a′ o′ n′ ts′ r′ t′ e₂. row-found c e₁ e₂ (Row.sca t t′)))
+      placed-found s k ts _ h₂ (λ q′ us w. row-found e₁ e₂ (Row.inp t w))))
+  table-found Out e = arrow-found signature l _ e (λ a o n ts r t e₁ h. sub-found Sub m _ h (λ r′ s e₂. row-found e₁ e₂ (Row.out t)))
+  table-found Sca e = arrow-found scalar l _ e (λ a o n ts r t e₁ h. arrow-found scalar m _ h (λ a′ o′ n′ ts′ r′ t′ e₂. row-found e₁ e₂ (Row.sca t t′)))
+  table-found Eli e = not-misshapen e
 
 -- Whatever the function concludes, the table infers.
 module _ (A B : Parent) (i j k : ℕ) {g : Agreement} {d : Clause} where
-  two-found : {rule : Rule} (f : Literal → Literal → Clause → Conclusion) → two A B i j f ≡ concludes g d →
-      Finds k g d rule f → Infers A B i j k rule g d
+  two-found : (rule : Rule) → two A B i j (tableRow k rule) ≡ concludes g d → Infers A B i j k rule g d
   unfolding two
-  two-found {rule} f e row =
+  two-found rule e =
       at-found i (filled A) _ e (λ l r p e₁. at-found j (filled B) _ e₁ (λ m r′ q e₂.
-      let w = row l m (r ++ r′) e₂ in
-      subst (λ c. Infers A B i j k rule g c) (sym (w .2)) (Infers.two p q (w .1))))
+      before-found _ e₂ (λ new e₃ e₄. rw (← e₄) (Infers.two p q (table-found rule e₃)))))
 
   fac-found : (l m : Literal) (r r′ : Clause) → At i l (filled A) r → At j m (filled A) r′ → conclude-fac i j l r m r′ ≡ concludes g d →
       Infers A B i j k Fac g d
@@ -245,27 +239,27 @@ module _ (A B : Parent) (i j k : ℕ) {g : Agreement} {d : Clause} where
   fac-found (lit Positive x) m r r′ p q e = differ i j _ e (λ n h. plus-found m _ h (λ y e₁ e₂. rw (← concluded e₂ .0, ← concluded e₂ .1) (Infers.fac⁺ p (rw e₁ at q) n)))
   fac-found (lit Negative x) m r r′ p q e = differ i j _ e (λ n h. minus-found m _ h (λ y e₁ e₂. rw (← concluded e₂ .0, ← concluded e₂ .1) (Infers.fac⁻ p (rw e₁ at q) n)))
 
-  par-found : (l m : Literal) (r r′ : Clause) → At i l (A .clause) r → At j m (filled B) r′ → conclude-par A k l r m r′ ≡ concludes g d →
-      Infers A B i j k Par g d
+  par-found : (l m : Literal) (r r′ : Clause) → At i l (A .clause) r → At j m (filled B) r′ →
+      before (conclude-par (A .image) k l m) (fillClause (A .image) r ++ r′) ≡ concludes g d → Infers A B i j k Par g d
   unfolding conclude-par
   par-found l m r r′ p q e =
-      sub-found Eq m _ e (λ s u e₁ h. found-found _ _ h (λ s′ l′ e₂ e₃.
-      rw (← concluded e₃ .0, ← concluded e₃ .1) (Infers.par p (rw e₁ at q) e₂)))
+      before-found _ e (λ new e₀ e₄. sub-found Eq m _ e₀ (λ s u e₁ h. found-found _ _ h (λ s′ l′ e₂ e₃.
+      rw (← e₄, ← concluded e₃ .0, ← concluded e₃ .1) (Infers.par p (rw e₁ at q) e₂))))
 
 pub concludes→infers : (A B : Parent) (i j k : ℕ) (rule : Rule) {g : Agreement} {d : Clause} →
     conclude A B i j k rule ≡ concludes g d → Infers A B i j k rule g d
-unfolding conclude
+unfolding conclude conclude-eli
 concludes→infers A B i j k Refl e = rw (← concluded e .0, ← concluded e .1) Infers.refl
-concludes→infers A B i j k Res e = two-found A B i j k conclude-res e found-res
+concludes→infers A B i j k Res e = two-found A B i j k Res e
 concludes→infers A B i j k Fac e = at-found i (filled A) _ e (λ l r p h. at-found j (filled A) _ h (λ m r′ q. fac-found A B i j k l m r r′ p q))
 concludes→infers A B i j k Par e = at-found i (A .clause) _ e (λ l r p h. at-found j (filled B) _ h (λ m r′ q. par-found A B i j k l m r r′ p q))
-concludes→infers A B i j k Acy e = two-found A B i j k conclude-acy e found-acy
-concludes→infers A B i j k Tra e = two-found A B i j k (conclude-link Sub) e found-tra
-concludes→infers A B i j k Inc e = two-found A B i j k (conclude-link Mem) e found-inc
-concludes→infers A B i j k Inh e = two-found A B i j k conclude-inh e found-inh
-concludes→infers A B i j k Inp e = two-found A B i j k (conclude-inp k) e found-inp
-concludes→infers A B i j k Out e = two-found A B i j k conclude-out e found-out
-concludes→infers A B i j k Sca e = two-found A B i j k conclude-sca e found-sca
+concludes→infers A B i j k Acy e = two-found A B i j k Acy e
+concludes→infers A B i j k Tra e = two-found A B i j k Tra e
+concludes→infers A B i j k Inc e = two-found A B i j k Inc e
+concludes→infers A B i j k Inh e = two-found A B i j k Inh e
+concludes→infers A B i j k Inp e = two-found A B i j k Inp e
+concludes→infers A B i j k Out e = two-found A B i j k Out e
+concludes→infers A B i j k Sca e = two-found A B i j k Sca e
 concludes→infers A B i j k Eli e =
     at-found i (filled A) _ e (λ l r p h. minus-found l _ h (λ x e₁ h₂. obj-found x _ h₂ (λ t e₂ e₃.
     rw (← concluded e₃ .0, ← concluded e₃ .1) (Infers.eli (rw (e₁, e₂) at p)))))

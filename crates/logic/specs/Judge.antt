@@ -19,7 +19,7 @@ use Rattle.logic.specs.Syntax.{Term, Terms, nil, cons, Result, value, no
 use Rattle.logic.specs.Equality.{link?, terms?, atom?, clause?}
 use Rattle.logic.specs.Terms.{count}
 use Rattle.logic.specs.Each.{width}
-use Rattle.logic.specs.Fill.{entries, fillClause}
+use Rattle.logic.specs.Fill.{Substitution, entries, fillClause}
 use Rattle.logic.specs.Occurrence.{Search, past, found, findLiteral}
 use Rattle.logic.specs.Rules.{Uses, uses, bare, Covers, Agreement, always, equal, covering, alike, Holds, signature, scalar, plus, one, Parent, filled, Infers}
 
@@ -113,68 +113,93 @@ unfoldable pub onFound : Search Literal → (Term → Literal → Conclusion) �
 onFound (past k) f = misshapen
 onFound (found s l) f = f s l
 
--- A rule with two parents, on the literal at I, the literal at J and the other literals.
-abbrev pub withNew : Clause → Agreement → Atom → Conclusion
-withNew c g x = concludes g (plus x ∷ c)
+-- A row's agreement and new literal.
+abbrev pub withNew : Agreement → Atom → Conclusion
+withNew g x = concludes g (plus x ∷ [])
 
+-- "The claim, all of it filled, is the new literal if any, A's other literals, then B's other literals, in order."
+unfoldable pub before : Conclusion → Clause → Conclusion
+before misshapen c = misshapen
+before (concludes g new) c = concludes g (new ++ c)
+
+-- The rules with two parents, on the literal at I and the literal at J.
 unfoldable pub onSub : Literal → (Term → Term → Conclusion) → Conclusion
 onSub l f = onPlus l (λ y. onLink Sub y f)
 
-unfoldable pub conclude-res : Literal → Literal → Clause → Conclusion
-conclude-res l m c = onMinus l (λ x. onPlus m (λ y. concludes (covering y x) c))
+unfoldable pub conclude-res : Literal → Literal → Conclusion
+conclude-res l m = onMinus l (λ x. onPlus m (λ y. concludes (covering y x) []))
 
-unfoldable pub conclude-acy : Literal → Literal → Clause → Conclusion
-conclude-acy l m c = onSub l (λ p q. onSub m (λ q′ p′. withNew c (equal (cons p (one q)) (cons p′ (one q′))) (link Eq p q)))
+unfoldable pub conclude-acy : Literal → Literal → Conclusion
+conclude-acy l m = onSub l (λ p q. onSub m (λ q′ p′. withNew (equal (cons p (one q)) (cons p′ (one q′))) (link Eq p q)))
 
 -- tra and inc: the first literal is of the link asked for, and so is the new one.
-unfoldable pub conclude-link : Link → Literal → Literal → Clause → Conclusion
-conclude-link k l m c = onPlus l (λ x. onLink k x (λ p q. onSub m (λ q′ r. withNew c (equal (one q) (one q′)) (link k p r))))
+unfoldable pub conclude-link : Link → Literal → Literal → Conclusion
+conclude-link k l m = onPlus l (λ x. onLink k x (λ p q. onSub m (λ q′ r. withNew (equal (one q) (one q′)) (link k p r))))
 
 unfoldable pub onSignature : Literal → (Arrow → Term → Term → Terms → Term → Conclusion) → Conclusion
 onSignature l f = onPlus l (λ x. onMethod signature x f)
 
-unfoldable pub conclude-inh : Literal → Literal → Clause → Conclusion
-conclude-inh l m c = onSignature l (λ a p n ts r. onSub m (λ s p′. withNew c (equal (one p) (one p′)) (method a s n ts (value r))))
+unfoldable pub conclude-inh : Literal → Literal → Conclusion
+conclude-inh l m = onSignature l (λ a p n ts r. onSub m (λ s p′. withNew (equal (one p) (one p′)) (method a s n ts (value r))))
 
-unfoldable pub conclude-inp : ℕ → Literal → Literal → Clause → Conclusion
-conclude-inp k l m c =
-    onSignature l (λ a o n ts r. onSub m (λ s q′. onPlaced s k ts (λ q us. withNew c (equal (one q) (one q′)) (method a o n us (value r)))))
+unfoldable pub conclude-inp : ℕ → Literal → Literal → Conclusion
+conclude-inp k l m =
+    onSignature l (λ a o n ts r. onSub m (λ s q′. onPlaced s k ts (λ q us. withNew (equal (one q) (one q′)) (method a o n us (value r)))))
 
-unfoldable pub conclude-out : Literal → Literal → Clause → Conclusion
-conclude-out l m c = onSignature l (λ a o n ts r. onSub m (λ r′ s. withNew c (equal (one r) (one r′)) (method a o n ts (value s))))
+unfoldable pub conclude-out : Literal → Literal → Conclusion
+conclude-out l m = onSignature l (λ a o n ts r. onSub m (λ r′ s. withNew (equal (one r) (one r′)) (method a o n ts (value s))))
 
 unfoldable pub onScalar : Literal → (Arrow → Term → Term → Terms → Term → Conclusion) → Conclusion
 onScalar l f = onPlus l (λ x. onMethod scalar x f)
 
-unfoldable pub conclude-sca : Literal → Literal → Clause → Conclusion
-conclude-sca l m c =
-    onScalar l (λ a o n ts r. onScalar m (λ a′ o′ n′ ts′ r′. withNew c (alike (method a o n ts none) (method a′ o′ n′ ts′ none)) (link Eq r r′)))
+unfoldable pub conclude-sca : Literal → Literal → Conclusion
+conclude-sca l m =
+    onScalar l (λ a o n ts r. onScalar m (λ a′ o′ n′ ts′ r′. withNew (alike (method a o n ts none) (method a′ o′ n′ ts′ none)) (link Eq r r′)))
 
-unfoldable pub two : Parent → Parent → ℕ → ℕ → (Literal → Literal → Clause → Conclusion) → Conclusion
-two A B i j f = onAt i (filled A) (λ l r. onAt j (filled B) (λ m r′. f l m (r ++ r′)))
+-- The rows of the rules with two parents, par apart; the other rules have none here.
+unfoldable pub tableRow : ℕ → Rule → Literal → Literal → Conclusion
+tableRow k Refl l m = misshapen
+tableRow k Res l m = conclude-res l m
+tableRow k Fac l m = misshapen
+tableRow k Par l m = misshapen
+tableRow k Acy l m = conclude-acy l m
+tableRow k Tra l m = conclude-link Sub l m
+tableRow k Inc l m = conclude-link Mem l m
+tableRow k Inh l m = conclude-inh l m
+tableRow k Inp l m = conclude-inp k l m
+tableRow k Out l m = conclude-out l m
+tableRow k Sca l m = conclude-sca l m
+tableRow k Eli l m = misshapen
 
+unfoldable pub two : Parent → Parent → ℕ → ℕ → (Literal → Literal → Conclusion) → Conclusion
+two A B i j f = onAt i (filled A) (λ l r. onAt j (filled B) (λ m r′. before (f l m) (r ++ r′)))
+
+-- par: the literal at I before filling.
+unfoldable pub conclude-par : Substitution → ℕ → Literal → Literal → Conclusion
+conclude-par σ k l m =
+    onPlus m (λ y. onLink Eq y (λ s′ u. onFound (findLiteral σ u l k) (λ s l′. concludes (equal (one s) (one s′)) (l′ ∷ []))))
+
+-- fac, on the literals at I and J, each with A's other literals.
 unfoldable pub conclude-fac : ℕ → ℕ → Literal → Clause → Literal → Clause → Conclusion
 conclude-fac i j (lit Positive x) r m r′ = cond (eqb i j) misshapen (onPlus m (λ y. concludes (covering y x) r′))
 conclude-fac i j (lit Negative x) r m r′ = cond (eqb i j) misshapen (onMinus m (λ y. concludes (covering y x) r))
 
-unfoldable pub conclude-par : Parent → ℕ → Literal → Clause → Literal → Clause → Conclusion
-conclude-par A k l r m r′ =
-    onPlus m (λ y. onLink Eq y (λ s′ u. onFound (findLiteral (A .image) u l k) (λ s l′.
-    concludes (equal (one s) (one s′)) (l′ ∷ (fillClause (A .image) r ++ r′)))))
+unfoldable pub conclude-eli : Literal → Clause → Conclusion
+conclude-eli l r = onMinus l (λ x. onObj x (λ p. concludes always r))
 
 unfoldable pub conclude : Parent → Parent → ℕ → ℕ → ℕ → Rule → Conclusion
-conclude A B i j k Refl = withNew [] always (link Sub (A .image 0) (A .image 0))
-conclude A B i j k Res = two A B i j conclude-res
+conclude A B i j k Refl = withNew always (link Sub (A .image 0) (A .image 0))
+conclude A B i j k Res = two A B i j (tableRow k Res)
 conclude A B i j k Fac = onAt i (filled A) (λ l r. onAt j (filled A) (conclude-fac i j l r))
-conclude A B i j k Par = onAt i (A .clause) (λ l r. onAt j (filled B) (conclude-par A k l r))
-conclude A B i j k Acy = two A B i j conclude-acy
-conclude A B i j k Tra = two A B i j (conclude-link Sub)
-conclude A B i j k Inc = two A B i j (conclude-link Mem)
-conclude A B i j k Inh = two A B i j conclude-inh
-conclude A B i j k Inp = two A B i j (conclude-inp k)
-conclude A B i j k Out = two A B i j conclude-out
-conclude A B i j k Sca = two A B i j conclude-sca
-conclude A B i j k Eli = onAt i (filled A) (λ l r. onMinus l (λ x. onObj x (λ p. concludes always r)))
+conclude A B i j k Par = onAt i (A .clause) (λ l r. onAt j (filled B) (λ m r′. before (conclude-par (A .image) k l m) (fillClause (A .image) r ++ r′)))
+conclude A B i j k Acy = two A B i j (tableRow k Acy)
+conclude A B i j k Tra = two A B i j (tableRow k Tra)
+conclude A B i j k Inc = two A B i j (tableRow k Inc)
+conclude A B i j k Inh = two A B i j (tableRow k Inh)
+conclude A B i j k Inp = two A B i j (tableRow k Inp)
+conclude A B i j k Out = two A B i j (tableRow k Out)
+conclude A B i j k Sca = two A B i j (tableRow k Sca)
+conclude A B i j k Eli = onAt i (filled A) conclude-eli
 
 -- What the rule table says of a step.
 unfoldable pub conclusion : List Clause → Step → Conclusion
