@@ -10,4 +10,6 @@ pub mod Soundness
 pub mod Entailment
 pub mod Agreeing
 pub mod Written
+pub mod Parts
 pub mod Every
+pub mod Over

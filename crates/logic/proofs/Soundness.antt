@@ -21,6 +21,7 @@ use Rattle.logic.proofs.Both.{left, right}
 use Rattle.logic.proofs.Finding.{atom-back, atom-replaced, found-map}
 use Rattle.logic.proofs.Instances.{at-fill}
 use Rattle.logic.proofs.Ground.{at-each}
+use Rattle.logic.proofs.Parts.{link-parts}
 
 -- A satisfied literal of a clause is at a position or among the others.
 module _ (S : Atom → Type 0) where
@@ -66,8 +67,8 @@ module _ {table : List ℕ} (H : Atom → Type 0) (S : Structure table H) where
   covers-holds (inr e) h = subst H e (S .none-holds h)
 
   eq-ground : {a b : Term} → H (link Eq a b) → T (groundTerm table a)
-  unfolding groundAtom groundTerm eachAtom eachTerm termsOf allowed
-  eq-ground {a} {b} h = left (eachTerm never (declares table) a) (eachTerm never (declares table) b && true) (S .ground h)
+  unfolding groundAtom groundTerm
+  eq-ground {a} {b} h = link-parts never (declares table) Eq a b (S .ground h) .0
 
   eq-sym : {a b : Term} → H (link Eq a b) → H (link Eq b a)
   unfolding ReplacedAtom termsOf withTerms nth entryOr

@@ -56,8 +56,11 @@ unfoldable pub allowedClause : Clause → Bool
 allowedClause [] = true
 allowedClause (lit g x ∷ c) = allowed x && allowedClause c
 
+unfoldable pub atomOver : (ℕ → Bool) → (ℕ → ℕ → Bool) → Atom → Bool
+atomOver p s x = allowed x && eachAtom p s x
+
 unfoldable pub groundAtom : List ℕ → Atom → Bool
-groundAtom table x = allowed x && eachAtom never (declares table) x
+groundAtom table x = atomOver never (declares table) x
 
 unfoldable pub overClause : List ℕ → Clause → Bool
 overClause table c = allowedClause c && eachClause any (declares table) c

@@ -8,7 +8,7 @@ use lib.Dec.{T}
 use Rattle.logic.specs.declared.Link.the-variants.{Mem}
 use Rattle.logic.specs.Syntax.{Atom, app, nil, link, Clause}
 use Rattle.logic.specs.Terms.{count, termsOf}
-use Rattle.logic.specs.Each.{eachTerm, eachAtom, declares, never, allowed, groundTerm, groundAtom}
+use Rattle.logic.specs.Each.{eachTerm, eachAtom, declares, never, allowed, groundTerm, groundAtom, atomOver}
 use Rattle.logic.specs.Fill.{fill, fillAtom, fillLiteral, fillClause}
 use Rattle.logic.specs.Structure.{Structure, Reading, plainly, SatisfiesLiteral, SomeLiteral, Satisfies, Grounds, Models, ModelsAll}
 use Rattle.logic.proofs.Both.{both}
@@ -34,7 +34,7 @@ abbrev Ground : List ℕ → Atom → Type 0
 Ground table x = T (groundAtom table x)
 
 every-models : ModelsAll plainly (0 ∷ []) (Ground (0 ∷ [])) modelled
-unfolding ModelsAll Models Satisfies plainly SomeLiteral SatisfiesLiteral fillClause fillLiteral fillAtom fill groundAtom allowed eachAtom eachTerm termsOf Grounds groundTerm count declares
+unfolding ModelsAll Models Satisfies plainly SomeLiteral SatisfiesLiteral fillClause fillLiteral fillAtom fill groundAtom atomOver allowed eachAtom eachTerm termsOf Grounds groundTerm count declares
 every-models = (λ γ g. inl (both (eachTerm never (declares (0 ∷ [])) (γ 0)) true (g 0) tt), tt)
 
 abbrev Modelled : List ℕ → List Clause → Type 0

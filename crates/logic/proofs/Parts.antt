@@ -1,0 +1,114 @@
+-- The parts of an atom of which something holds for each variable and symbol.
+use Prim.Native.Nat.{ℕ, zero, suc}
+use mathlib.Core.Bool.{Bool, true, false, _&&_}
+use mathlib.Core.Path.{_≡_, refl}
+use lib.Dec.{T}
+use Rattle.logic.specs.declared.Link.{Link}
+use Rattle.logic.specs.declared.Arrow.{Arrow}
+use Rattle.logic.specs.Syntax.{Term, app, Terms, nil, cons, Result, value, none, Atom, link, obj, method, mayBeNone}
+use Rattle.logic.specs.Terms.{count, join, resultTerms, termsOf, withResult, withTerms}
+use Rattle.logic.specs.Each.{eachTerm, eachTerms, eachAtom, atomOver, allowed, allowedResult}
+use Rattle.logic.specs.Occurrence.{Replaced, ReplacedIn, ReplacedAtom}
+use Rattle.logic.specs.Rules.{Placed}
+use Rattle.logic.proofs.Both.{left, right, both}
+use Rattle.logic.proofs.Filling.{Fits, with-has}
+use Rattle.logic.proofs.Finding.{replaced-count}
+
+module _ (p : ℕ → Bool) (s : ℕ → ℕ → Bool) where
+  pub join-each : (ts us : Terms) → T (eachTerms p s ts) → T (eachTerms p s us) → T (eachTerms p s (join ts us))
+  unfolding eachTerm join
+  join-each nil us h h′ = h′
+  join-each (cons t ts) us h h′ =
+      both (eachTerm p s t) (eachTerms p s (join ts us)) (left (eachTerm p s t) (eachTerms p s ts) h) (join-each ts us (right (eachTerm p s t) (eachTerms p s ts) h) h′)
+
+  pub each-join : (ts us : Terms) → T (eachTerms p s (join ts us)) → T (eachTerms p s ts) × T (eachTerms p s us)
+  unfolding eachTerm join
+  each-join nil us h = (tt, h)
+  each-join (cons t ts) us h =
+      let w = each-join ts us (right (eachTerm p s t) (eachTerms p s (join ts us)) h) in
+      (both (eachTerm p s t) (eachTerms p s ts) (left (eachTerm p s t) (eachTerms p s (join ts us)) h) (w .0), w .1)
+
+  pub placed-each : {q t : Term} {k : ℕ} {ts us : Terms} → Placed q k t ts us → T (eachTerm p s q) → T (eachTerms p s ts) → T (eachTerms p s us)
+  unfolding eachTerm
+  placed-each {q} (Placed.here {q = t} {ts = ts}) h w = both (eachTerm p s q) (eachTerms p s ts) h (right (eachTerm p s t) (eachTerms p s ts) w)
+  placed-each (Placed.there {t = t} {ts = ts} {us = us} x) h w =
+      both (eachTerm p s t) (eachTerms p s us) (left (eachTerm p s t) (eachTerms p s ts) w) (placed-each x h (right (eachTerm p s t) (eachTerms p s ts) w))
+
+  module _ {a b : Term} (h : T (eachTerm p s b)) where
+    mutual
+      unfolding eachTerm
+
+      replaced-each : {t u : Term} → Replaced a b t u → T (eachTerm p s t) → T (eachTerm p s u)
+      replaced-each (Replaced.here e e′) w = rw e′ h
+      replaced-each (Replaced.part {f = f} {ts = ts} {us = us} x) w =
+          both (s f (count us)) (eachTerms p s us) (rw (replaced-count x) (left (s f (count ts)) (eachTerms p s ts) w)) (replaced-in-each x (right (s f (count ts)) (eachTerms p s ts) w))
+
+      pub replaced-in-each : {ts us : Terms} → ReplacedIn a b ts us → T (eachTerms p s ts) → T (eachTerms p s us)
+      replaced-in-each (ReplacedIn.now {t = t} {u = u} {ts = ts} x) w =
+          both (eachTerm p s u) (eachTerms p s ts) (replaced-each x (left (eachTerm p s t) (eachTerms p s ts) w)) (right (eachTerm p s t) (eachTerms p s ts) w)
+      replaced-in-each (ReplacedIn.later {t = t} {ts = ts} {us = us} x) w =
+          both (eachTerm p s t) (eachTerms p s us) (left (eachTerm p s t) (eachTerms p s ts) w) (replaced-in-each x (right (eachTerm p s t) (eachTerms p s ts) w))
+
+result-allowed : (b : Bool) (r : Result) (us : Terms) → allowedResult b (withResult r us) ≡ allowedResult b r
+unfolding allowedResult withResult
+result-allowed b (value t) us = refl
+result-allowed b none us = refl
+
+pub with-allowed : (x : Atom) (us : Terms) → allowed (withTerms x us) ≡ allowed x
+unfolding allowed withTerms
+with-allowed (link l t u) us = refl
+with-allowed (obj t) us = refl
+with-allowed (method a o m ts r) us = result-allowed (mayBeNone a) r _
+
+module _ (p : ℕ → Bool) (s : ℕ → ℕ → Bool) where
+  abbrev pub E : Term → Bool
+  E t = eachTerm p s t
+
+  abbrev pub Es : Terms → Bool
+  Es ts = eachTerms p s ts
+
+  pub link-parts : (l : Link) (t u : Term) → T (atomOver p s (link l t u)) → T (E t) × T (E u)
+  unfolding atomOver allowed eachAtom termsOf eachTerm
+  link-parts l t u h = (left (E t) (E u && true) h, left (E u) true (right (E t) (E u && true) h))
+
+  pub link-over : (l : Link) (t u : Term) → T (E t) → T (E u) → T (atomOver p s (link l t u))
+  unfolding atomOver allowed eachAtom termsOf eachTerm
+  link-over l t u h k = both (E t) (E u && true) h (both (E u) true k tt)
+
+  pub obj-over : (t : Term) → T (E t) → T (atomOver p s (obj t))
+  unfolding atomOver allowed eachAtom termsOf eachTerm
+  obj-over t h = both (E t) true h tt
+
+  -- An arrow atom with any result, and with a term result.
+  abbrev pub Parts : Term → Term → Terms → Result → Type 0
+  Parts o m ts r = T (E o) × T (E m) × T (Es ts) × T (Es (resultTerms r))
+
+  pub arrow-parts : (a : Arrow) (o m : Term) (ts : Terms) (r : Result) → T (atomOver p s (method a o m ts r)) → Parts o m ts r
+  unfolding atomOver eachAtom termsOf eachTerm
+  arrow-parts a o m ts r h =
+      let w = right (allowed (method a o m ts r)) (E o && (E m && Es (join ts (resultTerms r)))) h in
+      let v = right (E o) (E m && Es (join ts (resultTerms r))) w in
+      let z = each-join p s ts (resultTerms r) (right (E m) (Es (join ts (resultTerms r))) v) in
+      (left (E o) (E m && Es (join ts (resultTerms r))) w, left (E m) (Es (join ts (resultTerms r))) v, z .0, z .1)
+
+  pub arrow-over : (a : Arrow) (o m : Term) (ts : Terms) (r : Result) → T (allowed (method a o m ts r)) → Parts o m ts r → T (atomOver p s (method a o m ts r))
+  unfolding atomOver eachAtom termsOf eachTerm
+  arrow-over a o m ts r h w =
+      both (allowed (method a o m ts r)) (E o && (E m && Es (join ts (resultTerms r)))) h
+      (both (E o) (E m && Es (join ts (resultTerms r))) (w .0) (both (E m) (Es (join ts (resultTerms r))) (w .1) (join-each p s ts (resultTerms r) (w .2) (w .3))))
+
+  pub method-parts : (a : Arrow) (o m : Term) (ts : Terms) (r : Term) → T (atomOver p s (method a o m ts (value r))) → T (E o) × T (E m) × T (Es ts) × T (E r)
+  unfolding resultTerms eachTerm
+  method-parts a o m ts r h = let w = arrow-parts a o m ts (value r) h in (w .0, w .1, w .2, left (E r) true (w .3))
+
+  pub method-over : (a : Arrow) (o m : Term) (ts : Terms) (r : Term) → T (E o) → T (E m) → T (Es ts) → T (E r) → T (atomOver p s (method a o m ts (value r)))
+  unfolding allowed allowedResult resultTerms eachTerm
+  method-over a o m ts r ho hm hs hr = arrow-over a o m ts (value r) tt (ho, hm, hs, both (E r) true hr tt)
+
+  pub replaced-over : (a b : Term) (x y : Atom) → T (E b) → T (atomOver p s x) → ReplacedAtom a b x y → T (atomOver p s y)
+  unfolding atomOver eachAtom ReplacedAtom
+  replaced-over a b x y h w r =
+      let us : Terms = r .0 in
+      let f : Fits x us = replaced-count (r .1) in
+      let k = replaced-in-each p s h (r .1) (right (allowed x) (Es (termsOf x)) w) in
+      rw (r .2, with-allowed x us, with-has x us f) (both (allowed x) (Es us) (left (allowed x) (Es (termsOf x)) w) k)
