@@ -9,15 +9,15 @@ use Rattle.logic.specs.declared.Arrow.{Arrow}
 use Rattle.logic.specs.declared.Rule.{Rule}
 use Rattle.logic.specs.Syntax.{Term, Terms, nil, cons, Result, value, none, Atom, link, obj, method, Literal, lit, Clause, mayBeNone}
 use Rattle.logic.specs.Terms.{join, resultTerms, termsOf, withTerms}
-use Rattle.logic.specs.Each.{eachTerm, atomOver}
-use Rattle.logic.specs.Fill.{Substitution, fill, fills, fillAtom, fillLiteral, fillClause}
+use Rattle.logic.specs.Each.{eachTerm, eachAtom, atomOver, allowed, allowedResult, allowedClause}
+use Rattle.logic.specs.Fill.{Substitution, fillResult, fillAtom, fillLiteral, fillClause}
 use Rattle.logic.specs.Occurrence.{found, findAtom, findTerms, findLiteral, ReplacedIn, ReplacedAtom}
 use Rattle.logic.specs.Rules.{Agreement, Placed, plus, minus, Row, Parent, filled, At, Infers}
 use Rattle.logic.proofs.Both.{left, right, both}
 use Rattle.logic.proofs.Filling.{with-has, Fits, terms-fill}
 use Rattle.logic.proofs.Finding.{found-map, atom-replaced, replaced-count}
 use Rattle.logic.proofs.Instances.{at-fill}
-use Rattle.logic.proofs.Ground.{at-each}
+use Rattle.logic.proofs.Ground.{atom-each-fill}
 use Rattle.logic.proofs.Parts.{placed-each, link-parts, link-over, method-parts, method-over, replaced-over}
 
 -- A clause whose atoms are allowed and over p and s.
@@ -69,3 +69,29 @@ module _ (p : ℕ → Bool) (s : ℕ → ℕ → Bool) where
       let a = over-at w ha in
       let b = over-at v hb in
       over-append new (r ++ r′) (row-over q (a .0) (b .0)) (over-append r r′ (a .1) (b .1))
+
+-- Filling keeps it, where the terms filled in keep it.
+result-kind : (b : Bool) (σ : Substitution) (r : Result) → allowedResult b (fillResult σ r) ≡ allowedResult b r
+unfolding allowedResult fillResult
+result-kind b σ (value t) = refl
+result-kind b σ none = refl
+
+fill-allowed : (σ : Substitution) (x : Atom) → allowed (fillAtom σ x) ≡ allowed x
+unfolding allowed fillAtom
+fill-allowed σ (link l t u) = refl
+fill-allowed σ (obj t) = refl
+fill-allowed σ (method a o m ts r) = result-kind (mayBeNone a) σ r
+
+pub fill-over : (p q : ℕ → Bool) (s : ℕ → ℕ → Bool) (σ : Substitution) → ((v : ℕ) → T (p v) → T (eachTerm q s (σ v))) → (c : Clause) → Over p s c → Over q s (fillClause σ c)
+unfolding Over fillClause fillLiteral atomOver
+fill-over p q s σ h [] w = tt
+fill-over p q s σ h (lit g x ∷ c) w = (
+  both (allowed (fillAtom σ x)) (eachAtom q s (fillAtom σ x)) (rw (fill-allowed σ x) (left (allowed x) (eachAtom p s x) (w .0)))
+      (atom-each-fill p q s σ h x (right (allowed x) (eachAtom p s x) (w .0))),
+  fill-over p q s σ h c (w .1),
+)
+
+pub over-allowed : (p : ℕ → Bool) (s : ℕ → ℕ → Bool) (c : Clause) → Over p s c → T (allowedClause c)
+unfolding Over atomOver allowedClause
+over-allowed p s [] w = tt
+over-allowed p s (lit g x ∷ c) w = both (allowed x) (allowedClause c) (left (allowed x) (eachAtom p s x) (w .0)) (over-allowed p s c (w .1))

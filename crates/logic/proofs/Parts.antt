@@ -79,6 +79,14 @@ module _ (p : ℕ → Bool) (s : ℕ → ℕ → Bool) where
   unfolding atomOver allowed eachAtom termsOf eachTerm
   obj-over t h = both (E t) true h tt
 
+  pub obj-part : (t : Term) → T (atomOver p s (obj t)) → T (E t)
+  unfolding atomOver allowed eachAtom termsOf eachTerm
+  obj-part t h = left (E t) true h
+
+  pub arrow-allowed : (a : Arrow) (o m : Term) (ts : Terms) (r : Result) → T (atomOver p s (method a o m ts r)) → T (allowedResult (mayBeNone a) r)
+  unfolding atomOver allowed
+  arrow-allowed a o m ts r h = left (allowedResult (mayBeNone a) r) (eachAtom p s (method a o m ts r)) h
+
   -- An arrow atom with any result, and with a term result.
   abbrev pub Parts : Term → Term → Terms → Result → Type 0
   Parts o m ts r = T (E o) × T (E m) × T (Es ts) × T (Es (resultTerms r))

@@ -10,3 +10,4 @@ pub mod Unique
 pub mod Rest
 pub mod Lines
 pub mod Examples
+pub mod Deep

@@ -5,22 +5,23 @@ use mathlib.Core.List.{List, [], _∷_, _++_, map, append-nil, append-assoc}
 use mathlib.Core.Path.{_≡_, refl, sym, ap, subst, _∙_}
 use lib.Dec.{T}
 use lib.ListN.{length, getD}
-use Rattle.logic.specs.declared.Arrow.{Arrow}
-use Rattle.logic.specs.Syntax.{Result, value, none, mayBeNone, Atom, link, obj, method, lit, Clause, Step, Line, sym as symLine, input, by}
-use Rattle.logic.specs.Each.{eachTerms, eachClause, declares, any, allowed, allowedResult, allowedClause, overClause}
+use Rattle.logic.specs.Syntax.{Clause, Step, Line, sym as symLine, input, by}
+use Rattle.logic.specs.Each.{eachTerms, eachClause, declares, any, allowedClause, overClause}
 use Rattle.logic.specs.Checks.{AllPass}
 use Rattle.logic.specs.Judge.{Given}
 use Rattle.logic.specs.Derivation.{Derivation, AllOver, WrittenForm, linesOf}
 use Rattle.logic.proofs.Both.{left, right, both}
 use Rattle.logic.proofs.Steps.{given→all}
 use Rattle.logic.proofs.Entailment.{ClauseOver, AllGiven}
+use Rattle.logic.proofs.Over.{over-allowed}
 use Rattle.logic.proofs.Written.{all-written, all-given, ClaimsAllowed, inferenceOf}
 use Rattle.reader.specs.Read.{Reading, form, noForm}
 use Rattle.reader.specs.Write.{writeLines}
-use Rattle.reader.specs.Form.{formedNumber, formedTerm, formedTerms, formedResult, formedAtom, formedLiteral, formedClause, formedStep, formedLine, formedLines}
+use Rattle.reader.specs.Form.{formedNumber, formedTerms, formedClause, formedStep, formedLine, formedLines}
 use Rattle.reader.specs.Split.{split, readRaw}
 use Rattle.reader.specs.Figures.{Figures}
 use Rattle.reader.specs.State.{State, fresh, clauses, claimOf, advance, isEmpty, ordered, hasConstant, constantReady, withinLimits, symbolsDeclared, lineChecks, after, stateAfter}
+use Rattle.reader.proofs.Deep.{formedSymbol, formed-over}
 use Rattle.reader.proofs.Lines.{lines-complete, lines-sound}
 use Rattle.verdict.specs.Checks.{readings, tooLarge, stepPart, checksOf, checksAt, stateOf, tableOf, inputsOf, clausesOf, Accepted}
 use Rattle.verdict.specs.Guarantee.{LinesWithin, Within, WrittenText}
@@ -143,22 +144,8 @@ passes-lines F st (l ∷ ls) p =
     ∙ (ap (λ ks. ks ++ ls) (line-last F st l (p 0 .1 .0)) ∙ append-assoc (linesIn st) (l ∷ []) ls)
 
 -- A form has the word none only where an arrow may have it.
-formed-result : (d : ℕ) (a : Arrow) (r : Result) → T (formedResult d a r) → T (allowedResult (mayBeNone a) r)
-unfolding formedResult allowedResult
-formed-result d a (value t) h = tt
-formed-result d a none h = h
-
-formed-atom : (d : ℕ) (x : Atom) → T (formedAtom d x) → T (allowed x)
-unfolding formedAtom allowed
-formed-atom d (link l t u) h = tt
-formed-atom d (obj t) h = tt
-formed-atom d (method a o m ts r) h = formed-result d a r (right (formedTerm d o && formedTerm d m && formedTerms d ts) (formedResult d a r) h)
-
 formed-clause : (d : ℕ) (c : Clause) → T (formedClause d c) → T (allowedClause c)
-unfolding formedClause formedLiteral allowedClause
-formed-clause d [] h = tt
-formed-clause d (lit g x ∷ c) h =
-    both (allowed x) (allowedClause c) (formed-atom d x (left (formedAtom d x) (formedClause d c) h)) (formed-clause d c (right (formedAtom d x) (formedClause d c) h))
+formed-clause d c h = over-allowed formedNumber formedSymbol c (formed-over d c h)
 
 formed-append : (d : ℕ) (ls ms : List Line) → T (formedLines d (ls ++ ms)) → T (formedLines d ls) × T (formedLines d ms)
 unfolding formedLines
