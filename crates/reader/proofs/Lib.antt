@@ -10,3 +10,6 @@ pub mod Unique
 pub mod Rest
 pub mod Lines
 pub mod Examples
+pub mod Positions
+pub mod Trees
+pub mod Nesting

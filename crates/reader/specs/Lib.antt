@@ -5,3 +5,4 @@ pub mod Read
 pub mod Split
 pub mod Figures
 pub mod State
+pub mod Access

@@ -1,1 +1,2 @@
 // The text form. Its definitions are in specs/, their laws in proofs/.
+pub mod access;
