@@ -32,3 +32,26 @@ passItem = skip " " >> skipItem
 unfoldable pub toItem : ℕ → Reader (Unit {0})
 toItem zero = skip " "
 toItem (suc n) = passItem >> toItem n
+
+-- Argument n, "(T ...)", "arguments from 0": the first has no space in front of it.
+unfoldable pub opening : Reader (Unit {0})
+opening [] = bad
+opening (b ∷ bs) = cond (eqb b 40) (got tt (b ∷ bs)) bad
+
+unfoldable pub toArgument : ℕ → Reader (Unit {0})
+toArgument zero = skip "(" >> opening
+toArgument (suc n) = skip "(" >> skipItem >> toItem n
+
+-- How many items follow, at most so many.
+unfoldable pub more : Parsed (Unit {0}) → (List ℕ → ℕ) → ℕ
+more bad f = 0
+more (got u rest) f = suc (f rest)
+
+unfoldable pub howMany : ℕ → List ℕ → ℕ
+howMany zero bs = 0
+howMany (suc most) bs = more (passItem bs) (howMany most)
+
+-- A place in s and the places past the items that follow, so many in all; past the end of s where there is none.
+unfoldable pub places : List ℕ → ℕ → ℕ → List ℕ
+places s zero at = []
+places s (suc n) at = at ∷ places s n (endOf s (passItem (drop at s)))
