@@ -10,3 +10,7 @@ pub mod Unique
 pub mod Rest
 pub mod Lines
 pub mod Examples
+pub mod Table
+pub mod KindTable
+pub mod Places
+pub mod Digits

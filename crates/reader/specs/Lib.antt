@@ -5,3 +5,5 @@ pub mod Read
 pub mod Split
 pub mod Figures
 pub mod State
+pub mod Kinds
+pub mod Places

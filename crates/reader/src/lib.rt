@@ -1,1 +1,4 @@
 // The text form. Its definitions are in specs/, their laws in proofs/.
+pub mod kinds;
+pub mod words;
+pub mod numbers;
