@@ -13,3 +13,7 @@ pub mod Examples
 pub mod Positions
 pub mod Trees
 pub mod Nesting
+pub mod Table
+pub mod KindTable
+pub mod Places
+pub mod Digits

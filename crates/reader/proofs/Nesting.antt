@@ -12,7 +12,8 @@ use Rattle.logic.specs.Syntax.{Term, Terms, nil, cons, Atom, Literal, Clause}
 use Rattle.logic.specs.Terms.{count, entryOr}
 use Rattle.reader.specs.Write.{Writer, word, putNumber, putTerm, putTerms, putArguments, putAtom, putLiteral, putLiterals, putClause, putLet}
 use Rattle.reader.specs.Read.{Parsed, bad, got, Reader, strip}
-use Rattle.reader.specs.Access.{endOf, closing, skipItem, passItem, toItem}
+use Rattle.reader.specs.Places.{endOf}
+use Rattle.reader.specs.Access.{closing, skipItem, passItem, toItem}
 use Rattle.reader.proofs.Tests.{T-and}
 use Rattle.reader.proofs.Gives.{Gives, nothing, gives, given, strip-gives}
 use Rattle.reader.proofs.Plain.{Plain, number-plain, in-front}

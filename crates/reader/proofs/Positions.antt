@@ -10,7 +10,8 @@ use native.Mathlib.Decide.{decLe}
 use borrow.Author.Tests.{eq-eqb, ne-eqb}
 use lib.Dec.{eqb}
 use Rattle.reader.specs.Read.{Parsed, bad, got, Reader, after, _>>_, strip}
-use Rattle.reader.specs.Access.{endOf, closing, skipItem, passItem, toItem, opening, toArgument}
+use Rattle.reader.specs.Places.{endOf}
+use Rattle.reader.specs.Access.{closing, skipItem, passItem, toItem, opening, toArgument}
 use Rattle.reader.proofs.Tests.{onTest}
 use Rattle.reader.proofs.Gives.{Gives, nothing, gives, weaken, bind, strip-gives}
 

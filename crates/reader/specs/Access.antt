@@ -3,13 +3,9 @@ use Prim.Native.Nat.{ℕ, zero, suc, _+_, _-_}
 use mathlib.Core.Bool.{cond}
 use mathlib.Core.List.{List, [], _∷_}
 use lib.Dec.{eqb}
-use lib.ListN.{length, drop}
+use lib.ListN.{drop}
+use Rattle.reader.specs.Places.{endOf}
 use Rattle.reader.specs.Read.{Parsed, bad, got, Reader, _>>_, skip}
-
--- The place where the bytes after the value begin; past the end of s if nothing was read.
-unfoldable pub endOf : {A : Type 0} → List ℕ → Parsed A → ℕ
-endOf s bad = length s + 1
-endOf s (got a rest) = length s - length rest
 
 -- Up to the bracket that closes the item, with n brackets open inside it.
 unfoldable pub closing : ℕ → Reader (Unit {0})

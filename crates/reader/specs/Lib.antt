@@ -6,3 +6,5 @@ pub mod Split
 pub mod Figures
 pub mod State
 pub mod Access
+pub mod Kinds
+pub mod Places

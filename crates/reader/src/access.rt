@@ -1,7 +1,8 @@
 // Finding the parts of a clause in its bytes.
 ghost use mathlib.Core.Path.{_≡_};
 ghost use lib.ListN.{drop};
-ghost use Rattle.reader.specs.Access.{endOf, skipItem, passItem, toItem, toArgument, howMany, places};
+ghost use Rattle.reader.specs.Places.{endOf};
+ghost use Rattle.reader.specs.Access.{skipItem, passItem, toItem, toArgument, howMany, places};
 
 // The place past the item that begins at `at`.
 pub fn skip(s: &[u8], at: usize) -> usize
