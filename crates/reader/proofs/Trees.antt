@@ -228,6 +228,7 @@ clean-atom (link l t u) = go l
   where
     c : CleanIn (byte 32 (part (treeTerm t) (byte 32 (part (treeTerm u) end))))
     c = (tt, (clean-term t, (tt, (clean-term u, tt))))
+
     go : (l : Link) → Clean (node (texts (bytes (linkWord l)) (byte 32 (part (treeTerm t) (byte 32 (part (treeTerm u) end))))))
     go Eq = (tt, (tt, (tt, c)))
     go Mem = (tt, (tt, (tt, (tt, c))))

@@ -1,9 +1,9 @@
 -- Finding the parts of a clause in its bytes: what stands in brackets, one item after another.
 use Prim.Native.Nat.{ℕ, zero, suc, _+_, _-_}
-use mathlib.Core.Bool.{cond}
+use mathlib.Core.Bool.{cond, _&&_}
 use mathlib.Core.List.{List, [], _∷_}
-use lib.Dec.{eqb}
-use lib.ListN.{drop}
+use lib.Dec.{eqb, ltb, leb}
+use lib.ListN.{length, take, drop, getD}
 use Rattle.reader.specs.Places.{endOf}
 use Rattle.reader.specs.Read.{Parsed, bad, got, Reader, _>>_, skip}
 
@@ -51,3 +51,10 @@ howMany (suc most) bs = more (passItem bs) (howMany most)
 unfoldable pub places : List ℕ → ℕ → ℕ → List ℕ
 places s zero at = []
 places s (suc n) at = at ∷ places s n (endOf s (passItem (drop at s)))
+
+-- "variable N of A becomes term N of the first list": the bytes of entry n, between the places of two neighbours.
+unfoldable pub entryOf : List ℕ → List ℕ → ℕ → List ℕ
+entryOf s starts n =
+    let from = getD starts n 0 in
+    let to = getD starts (n + 1) 0 in
+    cond (ltb from to && leb to (length s)) (take (to - (from + 1)) (drop (from + 1) s)) []

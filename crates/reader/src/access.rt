@@ -1,8 +1,9 @@
 // Finding the parts of a clause in its bytes.
+use crate::words::word;
 ghost use mathlib.Core.Path.{_≡_};
 ghost use lib.ListN.{drop};
 ghost use Rattle.reader.specs.Places.{endOf};
-ghost use Rattle.reader.specs.Access.{skipItem, passItem, toItem, toArgument, howMany, places};
+ghost use Rattle.reader.specs.Access.{skipItem, passItem, toItem, opening, toArgument, howMany, places, entryOf};
 
 // The place past the item that begins at `at`.
 pub fn skip(s: &[u8], at: usize) -> usize
@@ -36,13 +37,7 @@ pub fn skip(s: &[u8], at: usize) -> usize
 pub fn pass(s: &[u8], at: usize) -> usize
     ensures { λ r. ⌜ r ≡ endOf (now (s .entry)) (passItem (drop at (now (s .entry)))) ⌝ }
 {
-    if at >= s.len() {
-        return s.len() + 1;
-    }
-    if s[at] != b' ' {
-        return s.len() + 1;
-    }
-    skip(s, at + 1)
+    skip(s, word(s, at, b" "))
 }
 
 // The place of item n, from a place that stands at the space in front of item 0 or at the closing bracket.
@@ -55,36 +50,28 @@ pub fn item(s: &[u8], at: usize, n: usize) -> usize
         place = pass(s, place);
         left -= 1;
     }
-    if place >= s.len() {
+    word(s, place, b" ")
+}
+
+// The place, if an item begins there.
+fn begins(s: &[u8], at: usize) -> usize
+    ensures { λ r. ⌜ r ≡ endOf (now (s .entry)) (opening (drop at (now (s .entry)))) ⌝ }
+{
+    if at >= s.len() {
         return s.len() + 1;
     }
-    if s[place] != b' ' {
-        return s.len() + 1;
-    }
-    place + 1
+    if s[at] == b'(' { at } else { s.len() + 1 }
 }
 
 // The place of argument n of the bracket that begins at `at`.
 pub fn argument(s: &[u8], at: usize, n: usize) -> usize
     ensures { λ r. ⌜ r ≡ endOf (now (s .entry)) (toArgument n (drop at (now (s .entry)))) ⌝ }
 {
-    if at >= s.len() {
-        return s.len() + 1;
+    let first = word(s, at, b"(");
+    if n == 0 {
+        return begins(s, first);
     }
-    if s[at] != b'(' {
-        return s.len() + 1;
-    }
-    let first = at + 1;
-    if n > 0 {
-        return item(s, skip(s, first), n - 1);
-    }
-    if first >= s.len() {
-        return s.len() + 1;
-    }
-    if s[first] != b'(' {
-        return s.len() + 1;
-    }
-    first
+    item(s, skip(s, first), n - 1)
 }
 
 // How many items follow the place, at most so many.
@@ -116,4 +103,26 @@ pub fn starts(s: &[u8], at: usize) -> [usize; 33]
         found[n] = place;
     }
     found
+}
+
+// The bytes of entry n of a list, between two of the places of its entries.
+pub fn entry<'a>(s: &'a [u8], starts: &[usize], n: usize) -> &'a [u8]
+    ensures { λ r. ⌜ now r ≡ entryOf (now (s .entry)) (now (starts .entry)) n ⌝ }
+{
+    if starts.len() == 0 {
+        return &s[0..0];
+    }
+    if n >= starts.len() - 1 {
+        return &s[0..0];
+    }
+    let from = starts[n];
+    let to = starts[n + 1];
+    if from >= to {
+        return &s[0..0];
+    }
+    if to > s.len() {
+        return &s[0..0];
+    }
+    let begin = from + 1;
+    &s[begin..to]
 }

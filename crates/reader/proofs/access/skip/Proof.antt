@@ -3,7 +3,8 @@ use mathlib.Core.Path.{_≡_, _∙_}
 use native.Mathlib.Omega.{arith}
 use lib.ListN.{length, drop}
 use Rattle.reader.specs.Access.{closing, skipItem}
-use Rattle.reader.proofs.Positions.{end-bad, end-got, skip-none, skip-other, skip-begins, closing-none, closing-deeper, closing-closed, closing-outer, closing-on}
+use Rattle.reader.proofs.Places.{end-bad, end-at}
+use Rattle.reader.proofs.Positions.{skip-none, skip-other, skip-begins, closing-none, closing-deeper, closing-closed, closing-outer, closing-on}
 use Rattle.reader.proofs.access.skip.Statement.{statement}
 use Rattle.reader.proofs.access.skip.Tie as tie
 use Rattle.reader.proofs.access.skip.Reads as reads
@@ -21,7 +22,7 @@ add-result c = omega arith
 
 -- src/access.rt:12:9
 returns : tie.Need-returns Inv-loop μ-loop
-returns c = 
+returns c =
     let a = c .before .args in
     end-bad _ (skip-none (a .s .now) (a .at) (omega arith))
 
@@ -35,7 +36,7 @@ add-result-2 c = omega arith
 
 -- src/access.rt:15:9
 returns-2 : tie.Need-returns-2 Inv-loop μ-loop
-returns-2 c = 
+returns-2 c =
     let a = c .before .before .before .args in
     end-bad _ (skip-other (a .s .now) (a .at) (omega arith) (omega arith))
 
@@ -45,7 +46,7 @@ add-i c = omega arith
 
 -- src/access.rt:19:5
 loop-holds : tie.Need-loop-holds Inv-loop μ-loop
-loop-holds c = 
+loop-holds c =
     let a = c .before .before .before .args in
     (omega arith, omega arith, skip-begins (a .s .now) (a .at) (omega arith) (omega arith))
 
@@ -67,17 +68,17 @@ loop-less c = omega arith
 
 -- src/access.rt:19:5
 loop-again : tie.Need-loop-again Inv-loop μ-loop
-loop-again c = 
+loop-again c =
     let a = c .before .before .before .before .before .before .before .args in
     let l = c .before .before .before .loop in
     (omega arith, omega arith, cc (closing-deeper (a .s .now) (l .i) (l .level) (omega arith) (omega arith)))
 
 -- src/access.rt:26:17
 returns-3 : tie.Need-returns-3 Inv-loop μ-loop
-returns-3 c = 
+returns-3 c =
     let a = c .before .before .before .before .before .before .before .before .before .args in
     let l = c .before .before .before .before .before .loop in
-    end-got (a .s .now) (l .i + 1) (omega arith) (cc (closing-closed (a .s .now) (l .i) (l .level) (omega arith) (omega arith) (omega arith)))
+    end-at (a .s .now) {j = l .i + 1} (omega arith) (cc (closing-closed (a .s .now) (l .i) (l .level) (omega arith) (omega arith) (omega arith)))
 
 -- src/access.rt:28:13
 sub-level : tie.Need-sub-level Inv-loop μ-loop
@@ -89,7 +90,7 @@ loop-less-2 c = omega arith
 
 -- src/access.rt:19:5
 loop-again-2 : tie.Need-loop-again-2 Inv-loop μ-loop
-loop-again-2 c = 
+loop-again-2 c =
     let a = c .before .before .before .before .before .before .before .before .before .args in
     let l = c .before .before .before .before .before .loop in
     (omega arith, omega arith, cc (closing-outer (a .s .now) (l .i) (l .level) (omega arith) (omega arith) (omega arith)))
@@ -100,7 +101,7 @@ loop-less-3 c = omega arith
 
 -- src/access.rt:19:5
 loop-again-3 : tie.Need-loop-again-3 Inv-loop μ-loop
-loop-again-3 c = 
+loop-again-3 c =
     let a = c .before .before .before .before .before .before .before .before .args in
     let l = c .before .before .before .before .loop in
     (omega arith, omega arith, cc (closing-on (a .s .now) (l .i) (l .level) (omega arith) (omega arith) (omega arith)))
@@ -111,7 +112,7 @@ add-result-3 c = omega arith
 
 -- src/access.rt:7:1
 returns-4 : tie.Need-returns-4 Inv-loop μ-loop
-returns-4 c = 
+returns-4 c =
     let a = c .before .before .before .before .before .args in
     let l = c .before .loop in
     end-bad (a .s .now) (cc (closing-none (a .s .now) (l .i) (l .level) (omega arith)))

@@ -1,0 +1,2 @@
+// The rules: checks 7 to 11. Their definitions are in specs/, their laws in proofs/.
+pub mod compare;
