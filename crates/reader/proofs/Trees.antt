@@ -1,5 +1,5 @@
 -- Written forms as trees of brackets. What walks over the bytes of a form is judged once, on trees.
-use Prim.Native.Nat.{ℕ, zero, suc, _+_, _/_, _%_, _≤_, max}
+use Prim.Native.Nat.{ℕ, zero, suc, _+_, _/_, _%_, _≤_, _<_, max}
 use Prim.Native.String.{String}
 use mathlib.Core.Path.{_≡_, refl, sym, _∙_, ap}
 use mathlib.Core.Bool.{Bool, true, false, not, _&&_, cond}
@@ -13,6 +13,8 @@ use Rattle.logic.specs.declared.Link.the-variants.{Eq, Mem, Sub}
 use Rattle.logic.specs.declared.Arrow.{Arrow}
 use Rattle.logic.specs.declared.Arrow.the-variants.{Sv, Si, Mv, Mi, St, Mt}
 use Rattle.logic.specs.Syntax.{Term, var as variable, app, Terms, nil, cons, Result, value, none, Atom, link, obj, method, Literal, lit, Clause}
+use Rattle.logic.specs.Terms.{join, termsOf, resultTerms}
+use Rattle.logic.specs.Each.{termWidth, termsWidth}
 use Rattle.logic.specs.Fill.{Substitution, fill, fills, fillResult, fillAtom, fillLiteral}
 use Rattle.reader.specs.Words.{bytes, signWord, linkWord, arrowWord}
 use Rattle.reader.specs.Write.{Writer, word, digitByte, putDigits, putNumber, putTerm, putTerms, putArguments, putResult, putAtom, putLiteral, putLiterals, putClause, putLet}
@@ -62,18 +64,18 @@ abbrev mutual
   CleanIn (byte b ts) = T (inner b) × CleanIn ts
   CleanIn (part t ts) = Clean t × CleanIn ts
 
--- At most d brackets deep, with numbers N for its variables.
+-- At most d brackets deep, and P of each variable.
 abbrev mutual
-  pub Within : Tree → ℕ → Type 0
-  Within (var n) zero = ⊥
-  Within (var n) (suc d) = T (formedNumber n)
-  Within (node ts) zero = ⊥
-  Within (node ts) (suc d) = WithinIn ts d
+  pub Within : (ℕ → Type 0) → Tree → ℕ → Type 0
+  Within P (var n) zero = ⊥
+  Within P (var n) (suc d) = P n
+  Within P (node ts) zero = ⊥
+  Within P (node ts) (suc d) = WithinIn P ts d
 
-  pub WithinIn : Trees → ℕ → Type 0
-  WithinIn end d = Unit {0}
-  WithinIn (byte b ts) d = WithinIn ts d
-  WithinIn (part t ts) d = Within t d × WithinIn ts d
+  pub WithinIn : (ℕ → Type 0) → Trees → ℕ → Type 0
+  WithinIn P end d = Unit {0}
+  WithinIn P (byte b ts) d = WithinIn P ts d
+  WithinIn P (part t ts) d = Within P t d × WithinIn P ts d
 
 -- Bytes in front.
 unfoldable pub texts : List ℕ → Trees → Trees
@@ -94,10 +96,10 @@ unfolding texts
 clean-texts [] ts h c = c
 clean-texts (b ∷ bs) ts h c = (h .0, clean-texts bs ts (h .1) c)
 
-within-texts : (bs : List ℕ) (ts : Trees) (d : ℕ) → WithinIn ts d → WithinIn (texts bs ts) d
+within-texts : (P : ℕ → Type 0) (bs : List ℕ) (ts : Trees) (d : ℕ) → WithinIn P ts d → WithinIn P (texts bs ts) d
 unfolding texts
-within-texts [] ts d h = h
-within-texts (b ∷ bs) ts d h = within-texts bs ts d h
+within-texts P [] ts d h = h
+within-texts P (b ∷ bs) ts d h = within-texts P bs ts d h
 
 -- A number's bytes are no brackets.
 digit-inner : (d : ℕ) → T (inner (digitByte d))
@@ -255,3 +257,69 @@ clean-clause c = (tt, (tt, (tt, clean-literals c)))
 pub clean-let : (ts : Terms) → Clean (treeLet ts)
 unfolding treeLet
 clean-let ts = (tt, (tt, (tt, (tt, clean-terms ts))))
+
+-- Within the depth of a formed term, with variables below its width.
+abbrev pub Below : ℕ → ℕ → Type 0
+Below w n = T (formedNumber n) × (n < w)
+
+mutual
+  unfolding treeTerm termWidth
+
+  pub within-term : (w : ℕ) (t : Term) (d : ℕ) → T (formedTerm d t) → termWidth t ≤ w → Within (Below w) (treeTerm t) d
+  within-term w (variable n) zero f h = absurd (no-depth (variable n) f)
+  within-term w (variable n) (suc d) f h = (var-formed d n .1 f, h)
+  within-term w (app n ts) zero f h = absurd (no-depth (app n ts) f)
+  within-term w (app n ts) (suc d) f h = within-texts (Below w) (numberBytes n) (treeTerms ts) d (within-terms w ts d (app-formed d n ts .1 f .1) h)
+
+  pub within-terms : (w : ℕ) (ts : Terms) (d : ℕ) → T (formedTerms d ts) → termsWidth ts ≤ w → WithinIn (Below w) (treeTerms ts) d
+  within-terms w nil d f h = tt
+  within-terms w (cons t ts) d f h = let (g, k) = terms-formed d t ts .0 f in (within-term w t d g (omega arith), within-terms w ts d k (omega arith))
+
+pub join-width : (ts us : Terms) → termsWidth (join ts us) ≡ max (termsWidth ts) (termsWidth us)
+unfolding termsWidth join
+join-width nil us = omega arith
+join-width (cons t ts) us = omega (arith, join-width ts us)
+
+pub within-arguments : (w d : ℕ) (ts : Terms) → T (formedTerms d ts) → termsWidth ts ≤ w → Within (Below w) (treeArguments ts) (suc d)
+unfolding treeArguments termsWidth
+within-arguments w d nil f h = tt
+within-arguments w d (cons t ts) f h = let (g, k) = terms-formed d t ts .0 f in (within-term w t d g (omega arith), within-terms w ts d k (omega arith))
+
+-- A bound may be larger.
+mutual
+  pub within-more : (P : ℕ → Type 0) (t : Tree) (d : ℕ) → Within P t d → Within P t (suc d)
+  within-more P (var n) zero h = absurd h
+  within-more P (var n) (suc d) h = h
+  within-more P (node ts) zero h = absurd h
+  within-more P (node ts) (suc d) h = within-in-more P ts d h
+
+  within-in-more : (P : ℕ → Type 0) (ts : Trees) (d : ℕ) → WithinIn P ts d → WithinIn P ts (suc d)
+  within-in-more P end d h = tt
+  within-in-more P (byte b ts) d h = within-in-more P ts d h
+  within-in-more P (part t ts) d h = (within-more P t d (h .0), within-in-more P ts d (h .1))
+
+within-result : (w d : ℕ) (a : Arrow) (r : Result) → T (formedResult d a r) → termsWidth (resultTerms r) ≤ w → WithinIn (Below w) (treeResult r) (suc d)
+unfolding treeResult formedResult resultTerms termsWidth
+within-result w d a (value t) f h = (within-more _ (treeTerm t) d (within-term w t d f (omega arith)), tt)
+within-result w d a none f h = within-texts _ (bytes "none") end (suc d) tt
+
+pub within-atom : (w d : ℕ) (x : Atom) → T (formedAtom d x) → termsWidth (termsOf x) ≤ w → Within (Below w) (treeAtom x) (suc (suc d))
+unfolding treeAtom formedAtom termsOf termsWidth
+within-atom w d (link l t u) f h =
+    let (g, k) = simp T-and at f in
+    within-texts _ (bytes (linkWord l)) _ (suc d) (up t g (omega arith), (up u k (omega arith), tt))
+  where
+    up : (t : Term) → T (formedTerm d t) → termWidth t ≤ w → Within (Below w) (treeTerm t) (suc d)
+    up t f h = within-more _ (treeTerm t) d (within-term w t d f h)
+within-atom w d (obj t) f h = within-texts _ (bytes "obj ") _ (suc d) (within-more _ (treeTerm t) d (within-term w t d f (omega arith)), tt)
+within-atom w d (method a o m ts r) f h =
+    let ((p, g), k) = simp T-and at f in
+    let j = join-width ts (resultTerms r) in
+    within-texts _ (bytes (arrowWord a)) _ (suc d) (up o (p .0) (omega arith), (up m (p .1) (omega arith), (within-arguments w d ts g (omega arith), within-result w d a r k (omega arith))))
+  where
+    up : (t : Term) → T (formedTerm d t) → termWidth t ≤ w → Within (Below w) (treeTerm t) (suc d)
+    up t f h = within-more _ (treeTerm t) d (within-term w t d f h)
+
+pub within-literal : (w d : ℕ) (g : Sign) (x : Atom) → T (formedAtom d x) → termsWidth (termsOf x) ≤ w → Within (Below w) (treeLiteral (lit g x)) (suc (suc (suc d)))
+unfolding treeLiteral
+within-literal w d g x f h = within-texts _ (bytes (signWord g)) _ (suc (suc d)) (within-atom w d x f h, tt)

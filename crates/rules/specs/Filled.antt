@@ -3,9 +3,9 @@ use Prim.Native.Nat.{ℕ, zero, suc, _+_, _-_}
 use mathlib.Core.Bool.{Bool, true, false, cond}
 use mathlib.Core.List.{List, [], _∷_, _++_}
 use lib.Dec.{eqb}
-use lib.ListN.{length}
+use lib.ListN.{length, drop}
 use Rattle.reader.specs.Read.{Parsed, bad, got, Reader, after, _>>=_, _>>_, return, Branch, _⇒_, oneOf, strip, skip, readNumber}
-use Rattle.reader.specs.Access.{skipItem}
+use Rattle.reader.specs.Access.{skipItem, entryOf}
 use Rattle.rules.specs.declared.compare.Ends.{Ends}
 
 -- Bytes in front of what is read.
@@ -32,22 +32,33 @@ readIndex = do
   skip ")"
   return n
 
--- The variables' entries; the hole, as the number of bytes from it to the end; the bytes that go into the hole.
+-- The variables' entries; the hole, as the number of bytes from there to the end; what goes into it, at a depth.
 pub record Filler : Type 0 where
   pub entry : ℕ → List ℕ
   pub hole : ℕ
-  pub new : List ℕ
+  pub new : ℕ → Parsed (List ℕ)
+
+-- The item in the hole is passed, and other bytes stand for it.
+unfoldable pub instead : Parsed (List ℕ) → Reader (List ℕ)
+instead bad bs = bad
+instead (got ws _) bs = got ws bs
 
 -- The filled bytes of an item, at most so many brackets deep.
 unfoldable pub fillItem : Filler → ℕ → Reader (List ℕ)
 fillItem f zero bs = bad
 fillItem f (suc depth) bs =
-    let replaced = (skipItem >> return (f .new)) bs in
-    let variable = do
-      n ← readIndex
-      return (f .entry n) in
+    let replaced = (skipItem >> instead (f .new depth)) bs in
+    let variable = readIndex >>= (λ n. return (f .entry n)) in
     let kept = oneOf (("(v " ⇒ variable) ∷ ("(" ⇒ (λ inner. front (40 ∷ []) (inside (fillItem f depth) inner))) ∷ []) bs in
     cond (eqb (length bs) (f .hole)) replaced kept
+
+-- No hole: no item has 0 bytes.
+unfoldable pub plain : List ℕ → List ℕ → Filler
+plain line starts = record { entry = entryOf line starts; hole = 0; new = λ _. bad }
+
+-- In the hole stands the item at `from` of q, filled by another list of the same line.
+unfoldable pub replacing : List ℕ → List ℕ → ℕ → List ℕ → ℕ → List ℕ → Filler
+replacing line starts hole q from others = record { entry = entryOf line starts; hole = hole; new = λ depth. fillItem (plain line others) depth (drop from q) }
 
 -- What was filled stands at the front of ts: the bytes after it in ts, and those after the item.
 unfoldable pub matches : Parsed (List ℕ) → List ℕ → Parsed (List ℕ)
