@@ -11,3 +11,10 @@ pub mod Rest
 pub mod Lines
 pub mod Examples
 pub mod Deep
+pub mod Positions
+pub mod Trees
+pub mod Nesting
+pub mod Table
+pub mod KindTable
+pub mod Places
+pub mod Digits

@@ -5,3 +5,6 @@ pub mod Read
 pub mod Split
 pub mod Figures
 pub mod State
+pub mod Access
+pub mod Kinds
+pub mod Places

@@ -1,2 +1,3 @@
-// Checks 7 to 11 of a by line.
 pub mod uses;
+// The rules: checks 7 to 11. Their definitions are in specs/, their laws in proofs/.
+pub mod compare;

@@ -1,0 +1,71 @@
+-- Filling in bytes: "variable N of A becomes term N of the first list, of B term N of the second".
+use Prim.Native.Nat.{ℕ, zero, suc, _+_, _-_}
+use mathlib.Core.Bool.{Bool, true, false, cond}
+use mathlib.Core.List.{List, [], _∷_, _++_}
+use lib.Dec.{eqb}
+use lib.ListN.{length, drop}
+use Rattle.reader.specs.Read.{Parsed, bad, got, Reader, after, _>>=_, _>>_, return, Branch, _⇒_, oneOf, strip, skip, readNumber}
+use Rattle.reader.specs.Access.{skipItem, entryOf}
+use Rattle.rules.specs.declared.compare.Ends.{Ends}
+
+-- Bytes in front of what is read.
+unfoldable pub front : List ℕ → Parsed (List ℕ) → Parsed (List ℕ)
+front w bad = bad
+front w (got ws rest) = got (w ++ ws) rest
+
+-- "nested brackets": the inside of an item up to its closing bracket, nested items by `item`. The number bounds the steps.
+unfoldable pub insideUpTo : Reader (List ℕ) → ℕ → Reader (List ℕ)
+insideUpTo item zero bs = bad
+insideUpTo item (suc k) [] = bad
+insideUpTo item (suc k) (b ∷ bs) =
+    let part = after (item (b ∷ bs)) (λ w rest. front w (insideUpTo item k rest)) in
+    let on = front (b ∷ []) (insideUpTo item k bs) in
+    cond (eqb b 41) (got (41 ∷ []) bs) (cond (eqb b 40) part on)
+
+unfoldable pub inside : Reader (List ℕ) → Reader (List ℕ)
+inside item bs = insideUpTo item (length bs) bs
+
+-- A variable's number, after "(v ".
+unfoldable pub readIndex : Reader ℕ
+readIndex = do
+  n ← readNumber
+  skip ")"
+  return n
+
+-- The variables' entries; the hole, as the number of bytes from there to the end; what goes into it, at a depth.
+pub record Filler : Type 0 where
+  pub entry : ℕ → List ℕ
+  pub hole : ℕ
+  pub new : ℕ → Parsed (List ℕ)
+
+-- The item in the hole is passed, and other bytes stand for it.
+unfoldable pub instead : Parsed (List ℕ) → Reader (List ℕ)
+instead bad bs = bad
+instead (got ws _) bs = got ws bs
+
+-- The filled bytes of an item, at most so many brackets deep.
+unfoldable pub fillItem : Filler → ℕ → Reader (List ℕ)
+fillItem f zero bs = bad
+fillItem f (suc depth) bs =
+    let replaced = (skipItem >> instead (f .new depth)) bs in
+    let variable = readIndex >>= (λ n. return (f .entry n)) in
+    let kept = oneOf (("(v " ⇒ variable) ∷ ("(" ⇒ (λ inner. front (40 ∷ []) (inside (fillItem f depth) inner))) ∷ []) bs in
+    cond (eqb (length bs) (f .hole)) replaced kept
+
+-- No hole: no item has 0 bytes.
+unfoldable pub plain : List ℕ → List ℕ → Filler
+plain line starts = record { entry = entryOf line starts; hole = 0; new = λ _. bad }
+
+-- In the hole stands the item at `from` of q, filled by another list of the same line.
+unfoldable pub replacing : List ℕ → List ℕ → ℕ → List ℕ → ℕ → List ℕ → Filler
+replacing line starts hole q from others = record { entry = entryOf line starts; hole = hole; new = λ depth. fillItem (plain line others) depth (drop from q) }
+
+-- What was filled stands at the front of ts: the bytes after it in ts, and those after the item.
+unfoldable pub matches : Parsed (List ℕ) → List ℕ → Parsed (List ℕ)
+matches bad ts = bad
+matches (got ws rest) ts = after (strip ws ts) (λ _ left. got left rest)
+
+-- The places past both; past the ends where they do not match.
+unfoldable pub endsOf : List ℕ → List ℕ → Parsed (List ℕ) → Ends
+endsOf s t bad = record { at = length s + 1; pos = length t + 1 }
+endsOf s t (got left rest) = record { at = length s - length rest; pos = length t - length left }
