@@ -18,3 +18,4 @@ pub mod Table
 pub mod KindTable
 pub mod Places
 pub mod Digits
+pub mod Heads
