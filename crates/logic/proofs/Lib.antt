@@ -13,3 +13,4 @@ pub mod Written
 pub mod Parts
 pub mod Every
 pub mod Over
+pub mod Rewriting
