@@ -1,2 +1,3 @@
 pub mod Uses
 pub mod Filled
+pub mod Shapes
