@@ -1,2 +1,4 @@
 pub mod Flags
 pub mod Filling
+pub mod Placing
+pub mod Targets

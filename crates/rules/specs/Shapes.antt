@@ -4,6 +4,8 @@ use mathlib.Core.Bool.{Bool, true, false, cond}
 use mathlib.Core.List.{List}
 use lib.Dec.{leb}
 use lib.ListN.{length, drop}
+use Rattle.logic.specs.declared.Rule.{Rule}
+use Rattle.logic.specs.declared.Rule.the-variants.{Refl, Res, Fac, Par, Acy, Tra, Inc, Inh, Inp, Out, Sca, Eli}
 use Rattle.reader.specs.Words.{bytes}
 use Rattle.reader.specs.Read.{strip}
 use Rattle.reader.specs.Places.{endOf}
@@ -47,3 +49,19 @@ unfoldable pub objectAt : List ℕ → List ℕ → List ℕ → ℕ → ℕ
 objectAt p v w at =
     let o = orElse p (stripAt p v (positiveAt p at)) (stripAt p w (positiveAt p at)) in
     ifPlace p (stripAt p (bytes "(") (resultAt p o)) o
+
+-- The term that tra, inc, inh, inp and out rewrite: the second term of a link, or the object, argument k or result of a signature with a
+-- term result. The other rules have none here.
+unfoldable pub targetAt : List ℕ → Rule → ℕ → ℕ → ℕ
+targetAt p Refl k at = length p + 1
+targetAt p Res k at = length p + 1
+targetAt p Fac k at = length p + 1
+targetAt p Par k at = length p + 1
+targetAt p Acy k at = length p + 1
+targetAt p Tra k at = nextAt p (firstAt p (bytes "(sub ") at)
+targetAt p Inc k at = nextAt p (firstAt p (bytes "(mem ") at)
+targetAt p Inh k at = objectAt p (bytes "(st ") (bytes "(mt ") at
+targetAt p Inp k at = argumentAt p (nextAt p (nextAt p (objectAt p (bytes "(st ") (bytes "(mt ") at))) k
+targetAt p Out k at = resultAt p (objectAt p (bytes "(st ") (bytes "(mt ") at)
+targetAt p Sca k at = length p + 1
+targetAt p Eli k at = length p + 1

@@ -1,9 +1,10 @@
 // Where the terms that a rule names stand in a literal; a place past the end says that the shape is another.
+use logic::Rule;
 use reader::access::argument;
 use reader::access::skip;
 use reader::words::word;
 ghost use mathlib.Core.Path.{_≡_};
-ghost use Rattle.rules.specs.Shapes.{nextAt, positiveAt, firstAt, orElse, ifPlace, resultAt, objectAt};
+ghost use Rattle.rules.specs.Shapes.{nextAt, positiveAt, firstAt, orElse, ifPlace, resultAt, objectAt, targetAt};
 
 // The item after the one at `at`.
 pub fn next(p: &[u8], at: usize) -> usize
@@ -52,4 +53,24 @@ pub fn object(p: &[u8], v: &[u8], w: &[u8], at: usize) -> usize
     let atom = positive(p, at);
     let o = or_else(p, word(p, atom, v), word(p, atom, w));
     if_place(p, word(p, result(p, o), b"("), o)
+}
+
+// The term that tra, inc, inh, inp or out rewrites.
+pub fn target(p: &[u8], rule: Rule, k: usize, at: usize) -> usize
+    ensures { λ r. ⌜ r ≡ targetAt (now (p .entry)) rule k at ⌝ }
+{
+    match rule {
+        Rule::Tra => next(p, first(p, b"(sub ", at)),
+        Rule::Inc => next(p, first(p, b"(mem ", at)),
+        Rule::Inh => object(p, b"(st ", b"(mt ", at),
+        Rule::Inp => argument(p, next(p, next(p, object(p, b"(st ", b"(mt ", at))), k),
+        Rule::Out => result(p, object(p, b"(st ", b"(mt ", at)),
+        Rule::Refl => p.len() + 1,
+        Rule::Res => p.len() + 1,
+        Rule::Fac => p.len() + 1,
+        Rule::Par => p.len() + 1,
+        Rule::Acy => p.len() + 1,
+        Rule::Sca => p.len() + 1,
+        Rule::Eli => p.len() + 1,
+    }
 }
