@@ -14,3 +14,7 @@ pub mod Table
 pub mod KindTable
 pub mod Places
 pub mod Digits
+pub mod Chain
+pub mod Measuring
+pub mod Parts
+pub mod Loop

@@ -35,10 +35,10 @@ unbroken-append [] b s t = t
 unbroken-append (x ∷ a) b s t = let (p, q) = simp T-and at s in simp T-and (p, unbroken-append a b q t)
 
 infixr 60 _⨾_
-_⨾_ : {f g : Writer} → Plain f → Plain g → Plain (f ∘ g)
+pub _⨾_ : {f g : Writer} → Plain f → Plain g → Plain (f ∘ g)
 _⨾_ p q = record { front = p .front ++ q .front; one-line = unbroken-append (p .front) (q .front) (p .one-line) (q .one-line); puts = λ rest. p .puts _ ∙ rw (q .puts rest, append-assoc) }
 
-plain : (w : String) → T (unbroken (bytes w)) → Plain (word w)
+pub plain : (w : String) → T (unbroken (bytes w)) → Plain (word w)
 plain w t = record { front = bytes w; one-line = t; puts = λ _. refl }
 
 either : (b : Bool) {f g : Writer} → Plain f → Plain g → Plain (λ rest. cond b (f rest) (g rest))
@@ -72,7 +72,7 @@ rule-plain r = plain (ruleWord r) (elim r [ Refl ↦ tt | Res ↦ tt | Fac ↦ t
 space : Plain (word " ")
 space = plain " " tt
 
-close : Plain (word ")")
+pub close : Plain (word ")")
 close = plain ")" tt
 
 mutual

@@ -7,3 +7,4 @@ pub mod Figures
 pub mod State
 pub mod Kinds
 pub mod Places
+pub mod Summary

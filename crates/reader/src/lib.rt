@@ -2,3 +2,5 @@
 pub mod kinds;
 pub mod words;
 pub mod numbers;
+pub mod summaries;
+pub mod terms;
