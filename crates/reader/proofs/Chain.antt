@@ -58,6 +58,9 @@ pub lose : {A : Type 0} {read : Reader A} (s : List ℕ) {at e : ℕ} → Stops 
 unfolding endOf
 lose {read} s {at} st h l = h ∙ ap (endOf s) (ap read (past s at (omega arith)) ∙ st .needs)
 
+pub losing : {A : Type 0} {read : Reader A} (s : List ℕ) {at e e' : ℕ} → Stops read → e ≡ endOf s (read (drop at s)) → (e ≡ length s + 1 → e' ≡ length s + 1) → at ≡ length s + 1 → e' ≡ length s + 1
+losing s st h k l = k (lose s st h l)
+
 -- One part and then what follows it.
 pub onward : {A C : Type 0} {read : Reader A} (s : List ℕ) (at : ℕ) {e e' : ℕ} {R : C → Type 0} {p : Parsed C} (f : A → Reader C) → Stops read → e ≡ endOf s (read (drop at s)) → p ≡ after (read (drop at s)) f → (e ≡ length s + 1 → e' ≡ length s + 1) → ((a : A) → read (drop at s) ≡ got a (drop e s) → at ≤ e → e ≤ length s → p ≡ f a (drop e s) → Track s R p e') → Track s R p e'
 onward {A} {C} {read} s at {e} {e'} {R} {p} f st h w past-end k = go (look s at st h)
@@ -90,6 +93,10 @@ pub later-word : {A : Type 0} (w : String) (r : Reader A) (others : List (Branch
 unfolding oneOf
 later-word w r others bs e = rw e
 
+pub no-word : {A : Type 0} (r : Reader A) (others : List (Branch A)) (bs : List ℕ) → oneOf (("" ⇒ r) ∷ others) bs ≡ r bs
+unfolding oneOf strip
+no-word r others bs = refl
+
 pub last-word : {A : Type 0} (w : String) (r : Reader A) (bs : List ℕ) → oneOf ((w ⇒ r) ∷ []) bs ≡ after (skip w bs) (λ _. r)
 unfolding oneOf
 last-word {A} w r bs = go (skip w bs)
@@ -113,3 +120,11 @@ at-most {A} s {e} p h = rw h (go p)
     go : (p : Parsed A) → endOf s p ≤ length s + 1
     go bad = omega arith
     go (got a rest) = omega arith
+
+-- What is read at the end of a part is what follows it.
+pub handed : {A B : Type 0} {read : Reader A} (s : List ℕ) (at : ℕ) {e : ℕ} (next : Reader B) → Stops read → e ≡ endOf s (read (drop at s)) → next [] ≡ bad → next (drop e s) ≡ after (read (drop at s)) (λ _. next)
+handed {A} {B} {read} s at {e} next st h n = go (look s at st h)
+  where
+    go : Track s (λ _. at ≤ e) (read (drop at s)) e → next (drop e s) ≡ after (read (drop at s)) (λ _. next)
+    go (lost b l) = ap next (past s e (omega arith)) ∙ n ∙ rw b
+    go (found a g l m) = rw g

@@ -18,3 +18,6 @@ pub mod Chain
 pub mod Measuring
 pub mod Parts
 pub mod Loop
+pub mod Choices
+pub mod AtomParts
+pub mod ClauseParts

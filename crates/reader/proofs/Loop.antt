@@ -15,19 +15,7 @@ use Rattle.reader.specs.Summary.{empty, joined, counted, summary, settle
 use Rattle.reader.proofs.Gives.{strip-gives, given}
 use Rattle.reader.proofs.Places.{past}
 use Rattle.reader.proofs.Chain.{Stops, word-stops, Track, look, onward, hit, miss, farther, at-most}
-use Rattle.reader.proofs.Measuring.{settled-track, ending, measuring}
-
--- A measure is its four parts.
-measure-path : {a b : Measure} → a .count ≡ b .count → a .width ≡ b .width → a .arguments ≡ b .arguments → a .declared ≡ b .declared → a ≡ b
-measure-path c w n d = λ i. record { count = c i; width = w i; arguments = n i; declared = d i }
-
-and-true : (b : Bool) → b && true ≡ b
-and-true true = refl
-and-true false = refl
-
-and-assoc : (a b c : Bool) → a && (b && c) ≡ (a && b) && c
-and-assoc true b c = refl
-and-assoc false b c = refl
+use Rattle.reader.proofs.Measuring.{settled-track, ending, measuring, measure-path, and-true, and-assoc}
 
 joined-none : (m : Measure) → counted (m .count) (joined empty m) ≡ m
 unfolding joined

@@ -20,6 +20,18 @@ use Rattle.reader.proofs.Number.{number-sound, bounded}
 use Rattle.reader.proofs.Places.{end-at}
 use Rattle.reader.proofs.Chain.{Track, lost, found}
 
+-- A measure is its four parts.
+pub measure-path : {a b : Measure} → a .count ≡ b .count → a .width ≡ b .width → a .arguments ≡ b .arguments → a .declared ≡ b .declared → a ≡ b
+measure-path c w n d = λ i. record { count = c i; width = w i; arguments = n i; declared = d i }
+
+pub and-true : (b : Bool) → b && true ≡ b
+and-true true = refl
+and-true false = refl
+
+pub and-assoc : (a b c : Bool) → a && (b && c) ≡ (a && b) && c
+and-assoc true b c = refl
+and-assoc false b c = refl
+
 -- A part that is tracked to its end, with its measure, is summed up.
 pub settled-track : {A : Type 0} (measure : A → Measure) (s : List ℕ) {p : Parsed A} {e : ℕ} {v : Measure} → Track s (λ a. v ≡ measure a) p e → settled s e v ≡ summary measure s p
 unfolding settled endOf

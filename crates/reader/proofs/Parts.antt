@@ -5,7 +5,7 @@ use mathlib.Core.Bool.{true}
 use mathlib.Core.List.{List, [], _∷_}
 use native.Mathlib.Omega.{arith}
 use native.Mathlib.Numerals.{add-one}
-use lib.ListN.{length, drop}
+use lib.ListN.{length, drop, length-drop}
 use Rattle.logic.specs.Syntax.{Term, var, app, Terms, nil, cons}
 use Rattle.logic.specs.Terms.{count}
 use Rattle.logic.specs.Each.{any, declares, eachTerm, eachTerms, termWidth, termsWidth}
@@ -13,11 +13,13 @@ use Rattle.reader.specs.declared.numbers.NumberAt.{NumberAt}
 use Rattle.reader.specs.declared.summaries.Measure.{Measure}
 use Rattle.reader.specs.declared.summaries.Summary.{Summary}
 use Rattle.reader.specs.Words.{bytes}
+use Rattle.reader.specs.Write.{putTerms}
 use Rattle.reader.specs.Read.{Parsed, bad, got, strip, oneOf, readNumber, readItems, readMany, readTerms, readVariable, readApplied, readTerm}
-use Rattle.reader.specs.Places.{endOf, numberAt}
+use Rattle.reader.specs.Places.{endOf, readOr, numberAt}
 use Rattle.reader.specs.Summary.{empty, joined, counted, summary, settled, termMeasure, termsMeasure, appliedMeasure}
+use Rattle.reader.proofs.Gives.{Gives, nothing, gives}
 use Rattle.reader.proofs.Number.{number-sound}
-use Rattle.reader.proofs.Plain.{_⨾_, close, number-plain, term-plain, terms-plain}
+use Rattle.reader.proofs.Plain.{_⨾_, close, number-plain, term-plain, terms-plain, put-grows}
 use Rattle.reader.proofs.Items.{terms, many-sound}
 use Rattle.reader.proofs.Sound.{term-sound}
 use Rattle.reader.proofs.Chain.{Stops, stops, word-stops, lost, found, onward, lose, hit, miss, first-word, later-word, last-word}
@@ -34,7 +36,6 @@ unfolding readTerm oneOf strip
 term-stops d = stops (term-sound d) term-plain (needs d)
   where
     needs : (d : ℕ) → readTerm d [] ≡ bad
-
     needs zero = refl
     needs (suc d) = refl
 
@@ -94,3 +95,17 @@ term-list d table = record {
   of-none = terms-none table;
   of-more = terms-more table;
 }
+
+-- A list has no more terms than the text has bytes.
+terms-length : (ts : Terms) (rest : List ℕ) → count ts ≤ length (putTerms ts rest)
+unfolding putTerms count
+terms-length nil rest = omega arith
+terms-length (cons t ts) rest = omega (arith, terms-length ts rest, put-grows (term-plain t) (putTerms ts rest))
+
+pub few-terms : (d : ℕ) (table s : List ℕ) (at : ℕ) {r : Summary} → r ≡ summary (termsMeasure table) s (readTerms (readTerm d) (drop at s)) → r .measure .count ≤ length s
+unfolding termsMeasure
+few-terms d table s at h = rw h (go (many-sound (terms d) (term-sound d) .at (drop at s)))
+  where
+    go : {p : Parsed Terms} {F : Terms → Type 0} → Gives (λ ts rest. (drop at s ≡ putTerms ts (41 ∷ rest)) × F ts) p → readOr empty (termsMeasure table) p .count ≤ length s
+    go nothing = omega arith
+    go (gives {a = ts} {rest} q) = omega (arith, terms-length ts (41 ∷ rest), ap length (q .0), length-drop at s)

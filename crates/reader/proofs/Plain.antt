@@ -57,16 +57,16 @@ pub number-plain : (n : ℕ) → Plain (putNumber n)
 unfolding putNumber
 number-plain n = digits-plain n n
 
-sign-plain : (s : Sign) → Plain (word (signWord s))
+pub sign-plain : (s : Sign) → Plain (word (signWord s))
 sign-plain s = plain (signWord s) (elim s [ Positive ↦ tt | Negative ↦ tt ])
 
-link-plain : (l : Link) → Plain (word (linkWord l))
+pub link-plain : (l : Link) → Plain (word (linkWord l))
 link-plain l = plain (linkWord l) (elim l [ Eq ↦ tt | Mem ↦ tt | Sub ↦ tt ])
 
-arrow-plain : (a : Arrow) → Plain (word (arrowWord a))
+pub arrow-plain : (a : Arrow) → Plain (word (arrowWord a))
 arrow-plain a = plain (arrowWord a) (elim a [ Sv ↦ tt | Si ↦ tt | Mv ↦ tt | Mi ↦ tt | St ↦ tt | Mt ↦ tt ])
 
-rule-plain : (r : Rule) → Plain (word (ruleWord r))
+pub rule-plain : (r : Rule) → Plain (word (ruleWord r))
 rule-plain r = plain (ruleWord r) (elim r [ Refl ↦ tt | Res ↦ tt | Fac ↦ tt | Par ↦ tt | Acy ↦ tt | Tra ↦ tt | Inc ↦ tt | Inh ↦ tt | Inp ↦ tt | Out ↦ tt | Sca ↦ tt | Eli ↦ tt ])
 
 space : Plain (word " ")

@@ -8,3 +8,4 @@ pub mod State
 pub mod Kinds
 pub mod Places
 pub mod Summary
+pub mod Tables

@@ -50,6 +50,10 @@ mostArguments (lit g x ∷ c) = max (argumentCount x) (mostArguments c)
 unfoldable pub atomMeasure : List ℕ → Atom → Measure
 atomMeasure table x = record { count = 1; width = termsWidth (termsOf x); arguments = argumentCount x; declared = eachAtom any (declares table) x }
 
+-- An atom whose terms together have this measure.
+abbrev pub atomOf : Measure → ℕ → Measure
+atomOf m n = record { count = 1; width = m .width; arguments = n; declared = m .declared }
+
 unfoldable pub literalMeasure : List ℕ → Literal → Measure
 literalMeasure table (lit g x) = atomMeasure table x
 

@@ -1,6 +1,6 @@
 // Numbers N.
-use crate::kinds::kind;
 use crate::kinds::DIGIT;
+use crate::kinds::kind;
 ghost use mathlib.Core.Path.{_≡_};
 ghost use Prim.Native.Nat.{_≤_};
 ghost use lib.ListN.{length, drop};
@@ -38,7 +38,10 @@ fn digits(s: &[u8], at: usize, first: usize) -> NumberAt
         }
         let next = value * 10 + (s[i] - 48) as usize;
         if !goes_on(value, next) {
-            return NumberAt { end: n + 1, value: 0 };
+            return NumberAt {
+                end: n + 1,
+                value: 0,
+            };
         }
         value = next;
         i += 1;
@@ -50,10 +53,16 @@ pub fn number(s: &[u8], at: usize) -> NumberAt
     ensures { λ r. ⌜ r ≡ numberAt (now (s .entry)) (readNumber (drop at (now (s .entry)))) ⌝ }
 {
     if at >= s.len() {
-        return NumberAt { end: s.len() + 1, value: 0 };
+        return NumberAt {
+            end: s.len() + 1,
+            value: 0,
+        };
     }
     if kind(s[at]) != DIGIT {
-        return NumberAt { end: s.len() + 1, value: 0 };
+        return NumberAt {
+            end: s.len() + 1,
+            value: 0,
+        };
     }
     digits(s, at + 1, (s[at] - 48) as usize)
 }

@@ -1,12 +1,12 @@
 // Terms, and lists of terms up to a closing bracket.
 use crate::numbers::number;
+use crate::summaries::Measure;
+use crate::summaries::Summary;
 use crate::summaries::both;
 use crate::summaries::join;
 use crate::summaries::none;
 use crate::summaries::recount;
 use crate::summaries::settle;
-use crate::summaries::Measure;
-use crate::summaries::Summary;
 use crate::words::word;
 ghost use mathlib.Core.Path.{_≡_};
 ghost use mathlib.Core.Bool.{_&&_};
