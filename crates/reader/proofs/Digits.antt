@@ -15,11 +15,10 @@ use Rattle.reader.proofs.KindTable.{is-digit, no-digit}
 use Rattle.reader.proofs.Places.{at-byte, past, end-at, end-bad}
 
 pub number-bad : (s : List ℕ) {p : Parsed ℕ} → p ≡ bad → record { end = length s + 1; value = 0 } ≡ numberAt s p
-unfolding numberAt readOr endOf
+unfolding endOf
 number-bad s e = rw e
 
 pub number-got : (s : List ℕ) {j v : ℕ} {p : Parsed ℕ} → j ≤ length s → p ≡ got v (drop j s) → record { end = j; value = v } ≡ numberAt s p
-unfolding numberAt readOr
 number-got s {j} {v} h e = rw (← end-at s h e, e)
 
 pub goes-far : (n further : ℕ) → goesOn n further ≡ true → further ≤ 65535

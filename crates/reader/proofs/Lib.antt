@@ -19,3 +19,10 @@ pub mod KindTable
 pub mod Places
 pub mod Digits
 pub mod Heads
+pub mod Chain
+pub mod Measuring
+pub mod Parts
+pub mod Loop
+pub mod Choices
+pub mod AtomParts
+pub mod ClauseParts

@@ -35,10 +35,10 @@ unbroken-append [] b s t = t
 unbroken-append (x ∷ a) b s t = let (p, q) = simp T-and at s in simp T-and (p, unbroken-append a b q t)
 
 infixr 60 _⨾_
-_⨾_ : {f g : Writer} → Plain f → Plain g → Plain (f ∘ g)
+pub _⨾_ : {f g : Writer} → Plain f → Plain g → Plain (f ∘ g)
 _⨾_ p q = record { front = p .front ++ q .front; one-line = unbroken-append (p .front) (q .front) (p .one-line) (q .one-line); puts = λ rest. p .puts _ ∙ rw (q .puts rest, append-assoc) }
 
-plain : (w : String) → T (unbroken (bytes w)) → Plain (word w)
+pub plain : (w : String) → T (unbroken (bytes w)) → Plain (word w)
 plain w t = record { front = bytes w; one-line = t; puts = λ _. refl }
 
 either : (b : Bool) {f g : Writer} → Plain f → Plain g → Plain (λ rest. cond b (f rest) (g rest))
@@ -57,22 +57,22 @@ pub number-plain : (n : ℕ) → Plain (putNumber n)
 unfolding putNumber
 number-plain n = digits-plain n n
 
-sign-plain : (s : Sign) → Plain (word (signWord s))
+pub sign-plain : (s : Sign) → Plain (word (signWord s))
 sign-plain s = plain (signWord s) (elim s [ Positive ↦ tt | Negative ↦ tt ])
 
-link-plain : (l : Link) → Plain (word (linkWord l))
+pub link-plain : (l : Link) → Plain (word (linkWord l))
 link-plain l = plain (linkWord l) (elim l [ Eq ↦ tt | Mem ↦ tt | Sub ↦ tt ])
 
-arrow-plain : (a : Arrow) → Plain (word (arrowWord a))
+pub arrow-plain : (a : Arrow) → Plain (word (arrowWord a))
 arrow-plain a = plain (arrowWord a) (elim a [ Sv ↦ tt | Si ↦ tt | Mv ↦ tt | Mi ↦ tt | St ↦ tt | Mt ↦ tt ])
 
-rule-plain : (r : Rule) → Plain (word (ruleWord r))
+pub rule-plain : (r : Rule) → Plain (word (ruleWord r))
 rule-plain r = plain (ruleWord r) (elim r [ Refl ↦ tt | Res ↦ tt | Fac ↦ tt | Par ↦ tt | Acy ↦ tt | Tra ↦ tt | Inc ↦ tt | Inh ↦ tt | Inp ↦ tt | Out ↦ tt | Sca ↦ tt | Eli ↦ tt ])
 
 space : Plain (word " ")
 space = plain " " tt
 
-close : Plain (word ")")
+pub close : Plain (word ")")
 close = plain ")" tt
 
 mutual

@@ -9,3 +9,5 @@ pub mod Access
 pub mod Kinds
 pub mod Places
 pub mod Heads
+pub mod Summary
+pub mod Tables

@@ -11,9 +11,9 @@ endOf s bad = length s + 1
 endOf s (got a rest) = length s - length rest
 
 -- A measure of the value that was read, or the number given.
-unfoldable pub readOr : {A B : Type 0} → B → (A → B) → Parsed A → B
+abbrev pub readOr : {A B : Type 0} → B → (A → B) → Parsed A → B
 readOr none f bad = none
 readOr none f (got a rest) = f a
 
-unfoldable pub numberAt : List ℕ → Parsed ℕ → NumberAt
+abbrev pub numberAt : List ℕ → Parsed ℕ → NumberAt
 numberAt s p = record { end = endOf s p; value = readOr 0 (λ n. n) p }

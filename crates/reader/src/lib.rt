@@ -2,4 +2,9 @@
 pub mod access;
 pub mod kinds;
 pub mod numbers;
+pub mod atoms;
+pub mod clauses;
+pub mod summaries;
+pub mod tables;
+pub mod terms;
 pub mod words;
