@@ -1,9 +1,9 @@
 // The text form. Its definitions are in specs/, their laws in proofs/.
 pub mod access;
-pub mod kinds;
-pub mod numbers;
 pub mod atoms;
 pub mod clauses;
+pub mod kinds;
+pub mod numbers;
 pub mod summaries;
 pub mod tables;
 pub mod terms;
