@@ -1,1 +1,4 @@
 pub mod Filling
+pub mod Walk
+pub mod Answers
+pub mod Expected

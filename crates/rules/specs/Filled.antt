@@ -32,6 +32,10 @@ readIndex = do
   skip ")"
   return n
 
+-- A variable, from its number on: its entry's bytes.
+unfoldable pub indexed : (ℕ → List ℕ) → Reader (List ℕ)
+indexed entry = readIndex >>= (λ n. return (entry n))
+
 -- The variables' entries; the hole, as the number of bytes from there to the end; what goes into it, at a depth.
 pub record Filler : Type 0 where
   pub entry : ℕ → List ℕ
@@ -48,8 +52,7 @@ unfoldable pub fillItem : Filler → ℕ → Reader (List ℕ)
 fillItem f zero bs = bad
 fillItem f (suc depth) bs =
     let replaced = (skipItem >> instead (f .new depth)) bs in
-    let variable = readIndex >>= (λ n. return (f .entry n)) in
-    let kept = oneOf (("(v " ⇒ variable) ∷ ("(" ⇒ (λ inner. front (40 ∷ []) (inside (fillItem f depth) inner))) ∷ []) bs in
+    let kept = oneOf (("(v " ⇒ indexed (f .entry)) ∷ ("(" ⇒ (λ inner. front (40 ∷ []) (inside (fillItem f depth) inner))) ∷ []) bs in
     cond (eqb (length bs) (f .hole)) replaced kept
 
 -- No hole: no item has 0 bytes.

@@ -1,0 +1,261 @@
+-- Walking over an item while its filled bytes are matched: the steps of `fillItem`, where it ends, and the loop over the inside.
+use Prim.Native.Nat.{ℕ, zero, suc, _+_, _-_, _≤_, _<_}
+use mathlib.Core.Path.{_≡_, refl, sym, _∙_, ap, subst}
+use mathlib.Core.Bool.{Bool, true, false, cond}
+use mathlib.Core.List.{List, [], _∷_, _++_}
+use native.Mathlib.Decide.{ℕ-discrete}
+use native.Mathlib.Omega.{arith}
+use lib.Dec.{T, eqb}
+use lib.ListN.{length, drop, getD, length-drop, drop-of-length-le}
+use borrow.Author.Tests.{eq-eqb, ne-eqb}
+use Rattle.reader.specs.Read.{Parsed, bad, got, Reader, after, _>>=_, _>>_, oneOf, strip, readNumber}
+use Rattle.reader.specs.Access.{skipItem}
+use Rattle.reader.proofs.Tests.{onTest}
+use Rattle.reader.proofs.Gives.{Gives, nothing, gives, given, weaken, bind, strip-gives, none, branch, oneOf-meets}
+use Rattle.reader.proofs.Number.{number-sound}
+use Rattle.reader.proofs.Plain.{number-plain}
+use Rattle.reader.proofs.Places.{at-byte}
+use Rattle.reader.proofs.Positions.{End, Tail, end-refl, end-trans, end-cons, end-drop, strip-tail, sound-tail, and-tail, skip-tail, closing-tail}
+use Rattle.rules.specs.declared.compare.Ends.{Ends}
+use Rattle.rules.specs.Filled.{Filler, front, insideUpTo, inside, readIndex, indexed, instead, fillItem, matches, endsOf}
+
+-- The steps of filling.
+module _ (f : Filler) where
+  pub fill-zero : (d : ℕ) (bs : List ℕ) → d ≡ 0 → fillItem f d bs ≡ bad
+  unfolding fillItem
+  fill-zero d bs z = rw z
+
+  pub fill-empty : (d : ℕ) → fillItem f d [] ≡ bad
+  unfolding fillItem skipItem strip oneOf
+  fill-empty zero = refl
+  fill-empty (suc d) = onTest (λ x. x ≡ bad) (eqb 0 (f .hole)) (λ _. refl) (λ _. refl)
+
+  pub fill-hole : (d : ℕ) (bs : List ℕ) → 0 < d → length bs ≡ f .hole → fillItem f d bs ≡ after (skipItem bs) (λ _. instead (f .new (d - 1)))
+  unfolding fillItem
+  fill-hole zero bs h e = absurd (omega arith)
+  fill-hole (suc d) bs h e = let k : suc d - 1 ≡ d = omega arith in rw (eq-eqb _ _ e, k)
+
+  module _ (bs : List ℕ) (apart : length bs ≡ f .hole → ⊥) where
+    pub fill-variable : (d : ℕ) {rest : List ℕ} → 0 < d → strip (40 ∷ 118 ∷ 32 ∷ []) bs ≡ got tt rest → fillItem f d bs ≡ indexed (f .entry) rest
+    unfolding fillItem oneOf
+    fill-variable zero h e = absurd (omega arith)
+    fill-variable (suc d) h e = rw (ne-eqb _ _ apart, e)
+
+    pub fill-bracket : (d : ℕ) {rest : List ℕ} → 0 < d → strip (40 ∷ 118 ∷ 32 ∷ []) bs ≡ bad → strip (40 ∷ []) bs ≡ got tt rest → fillItem f d bs ≡ front (40 ∷ []) (inside (fillItem f (d - 1)) rest)
+    unfolding fillItem oneOf
+    fill-bracket zero h e g = absurd (omega arith)
+    fill-bracket (suc d) h e g = let k : suc d - 1 ≡ d = omega arith in rw (ne-eqb _ _ apart, e, g, k)
+
+    pub fill-other : (d : ℕ) → 0 < d → strip (40 ∷ 118 ∷ 32 ∷ []) bs ≡ bad → strip (40 ∷ []) bs ≡ bad → fillItem f d bs ≡ bad
+    unfolding fillItem oneOf
+    fill-other zero h e g = absurd (omega arith)
+    fill-other (suc d) h e g = rw (ne-eqb _ _ apart, e, g)
+
+-- One byte of a text.
+module _ (b : ℕ) (t : List ℕ) (j : ℕ) where
+  pub byte-here : j < length t → getD t j 0 ≡ b → strip (b ∷ []) (drop j t) ≡ got tt (drop (j + 1) t)
+  unfolding strip
+  byte-here h e = rw (at-byte t j h, eq-eqb b (getD t j 0) (sym e))
+
+  pub byte-none : length t ≤ j → strip (b ∷ []) (drop j t) ≡ bad
+  unfolding strip
+  byte-none h = rw (drop-of-length-le t h)
+
+  pub byte-other : j < length t → (getD t j 0 ≡ b → ⊥) → strip (b ∷ []) (drop j t) ≡ bad
+  unfolding strip
+  byte-other h e = rw (at-byte t j h, ne-eqb b (getD t j 0) (λ q. e (sym q)))
+
+-- A reader that takes at least one byte.
+pub record Less (bs rest : List ℕ) : Type 0 where
+  pub tail : End bs rest
+  pub less : length rest < length bs
+
+pub record Shrinks {A : Type 0} (read : Reader A) : Type 0 where
+  pub shrinks : (bs : List ℕ) → Gives (λ _ rest. Less bs rest) (read bs)
+
+less-cons : (b : ℕ) {bs rest : List ℕ} → End bs rest → Less (b ∷ bs) rest
+less-cons b e = record { tail = end-cons b e; less = omega (arith, e .within) }
+
+less-end : {bs mid rest : List ℕ} → Less bs mid → End mid rest → Less bs rest
+less-end l e = record { tail = end-trans (l .tail) e; less = omega (arith, l .less, e .within) }
+
+pub shrinks-tail : {A : Type 0} {read : Reader A} → Shrinks read → Tail read
+shrinks-tail s = record { tail = λ bs. weaken (s .shrinks bs) (λ _ rest l. l .tail) }
+
+first-shrinks : {B : Type 0} (b : ℕ) {next : Reader B} → Tail next → (bs : List ℕ) → Gives (λ _ rest. Less bs rest) (after (strip (b ∷ []) bs) (λ _. next))
+unfolding strip
+first-shrinks b t [] = nothing
+first-shrinks b {next} t (x ∷ bs) = onTest {A = Parsed (Unit {0})} (λ p. Gives (λ _ rest. Less (x ∷ bs) rest) (after p (λ _. next))) (eqb b x) (λ _. weaken (t .tail bs) (λ _ rest e. less-cons x e)) (λ _. nothing)
+
+pub skip-shrinks : Shrinks skipItem
+unfolding skipItem
+skip-shrinks = record { shrinks = first-shrinks 40 (closing-tail 0) }
+
+index-tail : (entry : ℕ → List ℕ) → Tail (indexed entry)
+unfolding indexed readIndex
+index-tail entry = record { tail = λ bs. bind (bind (sound-tail number-sound number-plain .tail bs) (λ n mid p. bind (strip-tail (41 ∷ []) .tail mid) (λ _ rest q. gives (end-trans p q)))) (λ n rest e. gives e) }
+
+front-gives : {Q : List ℕ → Type 0} {p : Parsed (List ℕ)} (w : List ℕ) → Gives (λ _ rest. Q rest) p → Gives (λ _ rest. Q rest) (front w p)
+unfolding front
+front-gives w nothing = nothing
+front-gives w (gives q) = gives q
+
+inside-next : (item : Reader (List ℕ)) → Tail item → (k : ℕ) → Tail (insideUpTo item k) → (bs : List ℕ) → Gives (λ _ rest. End bs rest) (insideUpTo item (suc k) bs)
+unfolding insideUpTo
+inside-next item t k u [] = nothing
+inside-next item t k u (b ∷ bs) =
+    onTest (Gives (λ _ rest. End (b ∷ bs) rest)) (eqb b 41) (λ _. gives (end-cons b (end-refl bs))) (λ _.
+    onTest (Gives (λ _ rest. End (b ∷ bs) rest)) (eqb b 40)
+    (λ _. bind (t .tail (b ∷ bs)) (λ w mid p. front-gives w (weaken (u .tail mid) (λ _ rest q. end-trans p q))))
+    (λ _. front-gives (b ∷ []) (weaken (u .tail bs) (λ _ rest q. end-cons b q))))
+
+inside-tail : (item : Reader (List ℕ)) → Tail item → (k : ℕ) → Tail (insideUpTo item k)
+unfolding insideUpTo
+inside-tail item t zero = record { tail = λ bs. nothing }
+inside-tail item t (suc k) = record { tail = inside-next item t k (inside-tail item t k) }
+
+instead-tail : (p : Parsed (List ℕ)) → Tail (instead p)
+unfolding instead
+instead-tail bad = record { tail = λ bs. nothing }
+instead-tail (got w _) = record { tail = λ bs. gives (end-refl bs) }
+
+fill-next : (f : Filler) (d : ℕ) → Tail (fillItem f d) → (bs : List ℕ) → Gives (λ _ rest. Less bs rest) (fillItem f (suc d) bs)
+unfolding fillItem inside
+fill-next f d t bs =
+    onTest (Gives (λ _ rest. Less bs rest)) (eqb (length bs) (f .hole))
+    (λ _. bind (skip-shrinks .shrinks bs) (λ _ mid l. weaken (instead-tail (f .new d) .tail mid) (λ _ rest e. less-end l e)))
+    (λ _. oneOf-meets {R = λ cs _ rest. Less cs rest}
+    (branch (record { at = λ cs. weaken (index-tail (f .entry) .tail cs) (λ _ rest e. less-cons 40 (end-cons 118 (end-cons 32 e))) })
+    (branch (record { at = λ cs. front-gives (40 ∷ []) (weaken (inside-tail (fillItem f d) t (length cs) .tail cs) (λ _ rest e. less-cons 40 e)) }) none)) .at bs)
+
+-- Filling passes the item and nothing else.
+pub fill-shrinks : (f : Filler) (d : ℕ) → Shrinks (fillItem f d)
+unfolding fillItem
+fill-shrinks f zero = record { shrinks = λ bs. nothing }
+fill-shrinks f (suc d) = record { shrinks = fill-next f d (shrinks-tail (fill-shrinks f d)) }
+
+-- What matches: first what stands in front, then the rest.
+pub strip-append : (v w bs : List ℕ) → strip (v ++ w) bs ≡ after (strip v bs) (λ _. strip w)
+unfolding strip
+strip-append [] w bs = refl
+strip-append (b ∷ v) w [] = refl
+strip-append (b ∷ v) w (x ∷ bs) = elim (eqb b x) as (λ y. cond y (strip (v ++ w) bs) bad ≡ after (cond y (strip v bs) bad) (λ _. strip w)) [ true ↦ strip-append v w bs | false ↦ refl ]
+
+pub matches-front : (w : List ℕ) (p : Parsed (List ℕ)) (ts : List ℕ) → matches (front w p) ts ≡ after (strip w ts) (λ _. matches p)
+unfolding matches front
+matches-front w bad ts = go (strip w ts)
+  where
+    go : (q : Parsed (Unit {0})) → _≡_ {A = Parsed (List ℕ)} bad (after q (λ _ _. bad))
+    go bad = refl
+    go (got u left) = refl
+matches-front w (got ws rest) ts = rw (strip-append w ws ts) (go (strip w ts))
+  where
+    go : (q : Parsed (Unit {0})) → after (after q (λ _. strip ws)) (λ _ left. got left rest) ≡ after q (λ _ left. after (strip ws left) (λ _ more. got more rest))
+    go bad = refl
+    go (got u left) = refl
+
+-- Where an item that was filled and matched ends.
+pub data Landed (item : Reader (List ℕ)) (p t : List ℕ) (i j : ℕ) (e : Ends) : Type 0 where
+  missed : matches (item (drop i p)) (drop j t) ≡ bad → length p < e .at → length t < e .pos → Landed item p t i j e
+  landed : {w : List ℕ} → item (drop i p) ≡ got w (drop (e .at) p) → strip w (drop j t) ≡ got tt (drop (e .pos) t) → i < e .at → e .at ≤ length p → e .pos ≤ length t → Landed item p t i j e
+
+module _ {item : Reader (List ℕ)} (s : Shrinks item) (p t : List ℕ) (i j : ℕ) where
+  land-got : (w rest : List ℕ) → item (drop i p) ≡ got w rest → Less (drop i p) rest → {y : Parsed (Unit {0})} → strip w (drop j t) ≡ y → Gives (λ _ left. End (drop j t) left) y → Landed item p t i j (endsOf p t (after y (λ _ left. got left rest)))
+  unfolding matches endsOf
+  land-got w rest ei l ey nothing = missed (rw (ei, ey)) (omega arith) (omega arith)
+  land-got w rest ei l ey (gives {a = u} {rest = left} k) =
+      let n = length-drop i p in
+      landed {w = w} (ei ∙ ap (got w) (sym (end-drop p i rest (l .tail)))) (ey ∙ ap (got tt) (sym (end-drop t j left k))) (omega (arith, l .less)) (omega arith) (omega arith)
+
+  land-item : {x : Parsed (List ℕ)} → item (drop i p) ≡ x → Gives (λ _ rest. Less (drop i p) rest) x → Landed item p t i j (endsOf p t (matches x (drop j t)))
+  unfolding matches endsOf
+  land-item ei nothing = missed (rw ei) (omega arith) (omega arith)
+  land-item ei (gives {a = w} {rest} l) = land-got w rest ei l refl (strip-tail w .tail (drop j t))
+
+  pub land : {e : Ends} → e ≡ endsOf p t (matches (item (drop i p)) (drop j t)) → Landed item p t i j e
+  land q = rw q (land-item refl (s .shrinks (drop i p)))
+
+pub never-front : (w : List ℕ) (p : Parsed (List ℕ)) (ts : List ℕ) → strip w ts ≡ bad → matches (front w p) ts ≡ bad
+never-front w p ts b = matches-front w p ts ∙ rw b
+
+-- The steps of the inside.
+module _ (item : Reader (List ℕ)) (k b : ℕ) (bs : List ℕ) where
+  inside-open : b ≡ 40 → insideUpTo item (suc k) (b ∷ bs) ≡ after (item (b ∷ bs)) (λ w rest. front w (insideUpTo item k rest))
+  unfolding insideUpTo
+  inside-open e = rw e
+
+  inside-close : b ≡ 41 → insideUpTo item (suc k) (b ∷ bs) ≡ got (41 ∷ []) bs
+  unfolding insideUpTo
+  inside-close e = rw e
+
+  inside-on : (b ≡ 40 → ⊥) → (b ≡ 41 → ⊥) → insideUpTo item (suc k) (b ∷ bs) ≡ front (b ∷ []) (insideUpTo item k bs)
+  unfolding insideUpTo
+  inside-on o c = rw (ne-eqb b 41 c, ne-eqb b 40 o)
+
+never-open : (x : Parsed (List ℕ)) (next : Reader (List ℕ)) (ts : List ℕ) → matches x ts ≡ bad → matches (after x (λ w rest. front w (next rest))) ts ≡ bad
+unfolding matches
+never-open bad next ts e = refl
+never-open (got w rest) next ts e = matches-front w (next rest) ts ∙ go (strip w ts) e
+  where
+    go : (y : Parsed (Unit {0})) → after y (λ _ left. got left rest) ≡ bad → after y (λ _. matches (next rest)) ≡ bad
+    go bad e = refl
+    go (got u left) e = absurd (let z : _≡_ {A = ℕ} 0 1 = cc in omega arith)
+
+-- Within the text, what was matched ends behind its beginning.
+pub further : {item : Reader (List ℕ)} {p t : List ℕ} {i j : ℕ} {e : Ends} → Landed item p t i j e → e .at ≤ length p → (i < e .at) × (e .pos ≤ length t)
+further (missed m o k) h = absurd (omega arith)
+further (landed a r n o k) h = (n, k)
+
+-- The loop over the inside of an item: the whole is what is left, in enough steps.
+pub record Going (item : Reader (List ℕ)) (p t : List ℕ) (whole : Parsed (List ℕ)) (i j : ℕ) : Type 0 where
+  pub steps : ℕ
+  pub enough : length p - i ≤ steps
+  pub left : whole ≡ matches (insideUpTo item steps (drop i p)) (drop j t)
+
+module _ {item : Reader (List ℕ)} (p t : List ℕ) {whole : Parsed (List ℕ)} where
+  pub going-from : (i j : ℕ) → whole ≡ matches (front (40 ∷ []) (inside item (drop i p))) (drop j t) → j < length t → getD t j 0 ≡ 40 → Going item p t whole i (j + 1)
+  unfolding inside
+  going-from i j e h b = record { steps = length (drop i p); enough = omega (arith, length-drop i p); left = e ∙ matches-front (40 ∷ []) _ (drop j t) ∙ rw (byte-here 40 t j h b) }
+
+  module _ (i j : ℕ) (g : Going item p t whole i j) where
+    pub going-end : length p ≤ i → whole ≡ bad
+    unfolding matches insideUpTo
+    going-end h = g .left ∙ rw (drop-of-length-le p h) (none (g .steps))
+      where
+        none : (k : ℕ) → matches (insideUpTo item k []) (drop j t) ≡ bad
+        none zero = refl
+        none (suc k) = refl
+
+    module _ (h : i < length p) where
+      steps : ℕ
+      steps = g .steps - 1
+
+      more : suc (g .steps - 1) ≡ g .steps
+      more = omega (arith, g .enough)
+
+      stepped : whole ≡ matches (insideUpTo item (suc (g .steps - 1)) (getD p i 0 ∷ drop (i + 1) p)) (drop j t)
+      stepped = g .left ∙ rw (at-byte p i h, more)
+
+      pub going-part : getD p i 0 ≡ 40 → {e : Ends} → Landed item p t i j e → e .at ≤ length p → Going item p t whole (e .at) (e .pos)
+      going-part b (missed m o k) l = absurd (omega arith)
+      going-part b (landed {w} a r n o k) l = record { steps = g .steps - 1; enough = omega (arith, g .enough); left = stepped ∙ rw (inside-open item (g .steps - 1) (getD p i 0) (drop (i + 1) p) b, ← at-byte p i h, a, matches-front, r) }
+
+      pub never-part : getD p i 0 ≡ 40 → {e : Ends} → Landed item p t i j e → length p < e .at → whole ≡ bad
+      never-part b (missed m o k) l = stepped ∙ rw (inside-open item (g .steps - 1) (getD p i 0) (drop (i + 1) p) b, ← at-byte p i h) (never-open _ _ (drop j t) m)
+      never-part b (landed {w} a r n o k) l = absurd (omega arith)
+
+      module _ (b : getD p i 0 ≡ 40 → ⊥) where
+        pub going-closed : j < length t → getD t j 0 ≡ getD p i 0 → getD p i 0 ≡ 41 → whole ≡ got (drop (j + 1) t) (drop (i + 1) p)
+        unfolding matches
+        going-closed k e c = stepped ∙ rw (inside-close item (g .steps - 1) (getD p i 0) (drop (i + 1) p) c, byte-here 41 t j k (e ∙ c))
+
+        pub going-on : j < length t → getD t j 0 ≡ getD p i 0 → (getD p i 0 ≡ 41 → ⊥) → Going item p t whole (i + 1) (j + 1)
+        going-on k e c = record { steps = g .steps - 1; enough = omega (arith, g .enough); left = stepped ∙ rw (inside-on item (g .steps - 1) (getD p i 0) (drop (i + 1) p) b c, matches-front, byte-here (getD p i 0) t j k e) }
+
+        pub never-on : strip (getD p i 0 ∷ []) (drop j t) ≡ bad → whole ≡ bad
+        unfolding matches
+        never-on e = stepped ∙ go (ℕ-discrete (getD p i 0) 41)
+          where
+            go : Dec (getD p i 0 ≡ 41) → matches (insideUpTo item (suc (g .steps - 1)) (getD p i 0 ∷ drop (i + 1) p)) (drop j t) ≡ bad
+            go (yes c) = rw (inside-close item (g .steps - 1) (getD p i 0) (drop (i + 1) p) c, ← c, e)
+            go (no c) = rw (inside-on item (g .steps - 1) (getD p i 0) (drop (i + 1) p) b c) (never-front _ _ (drop j t) e)
