@@ -10,7 +10,7 @@ use Rattle.reader.specs.Access.{skipItem, entryOf}
 use Rattle.reader.proofs.Positions.{strip-tail, skip-tail}
 use Rattle.rules.specs.declared.compare.Ends.{Ends}
 use Rattle.rules.specs.Filled.{Filler, instead, indexed, front, inside, fillItem, plain, replacing, matches, endsOf}
-use Rattle.rules.proofs.Walk.{fill-zero, fill-empty, fill-hole, fill-variable, fill-bracket, fill-other, fill-shrinks, byte-here, byte-none, byte-other, Landed, missed, landed, land, Going, going-from, never-front}
+use Rattle.rules.proofs.Walk.{fill-zero, fill-empty, fill-hole, fill-variable, fill-bracket, fill-other, fill-shrinks, byte-here, byte-none, byte-other, Landed, missed, landed, land, Going, going-from, never-front, matching}
 use Rattle.rules.proofs.Answers.{missing, there, ends-at, ends-bad}
 
 -- A call of `expect`.
@@ -34,7 +34,7 @@ abbrev pub whole : Call → Parsed (List ℕ)
 whole x = matches (fillItem (filler x) (x .depth) (drop (x .at) (x .p))) (drop (x .pos) (x .t))
 
 abbrev pub Loop : Call → ℕ → ℕ → Type 0
-Loop x i j = Going (fillItem (filler x) (x .depth - 1)) (x .p) (x .t) (whole x) i j
+Loop x i j = Going (matching (fillItem (filler x) (x .depth - 1))) (x .p) (x .t) (whole x) i j
 
 pub lost : {y : Parsed (List ℕ)} (ts : List ℕ) → y ≡ bad → matches y ts ≡ bad
 unfolding matches
@@ -54,6 +54,15 @@ instead-lost (got w rest) bs ts e = go (strip w ts) e
     go bad e = refl
     go (got u left) e = absurd (let z : _≡_ {A = ℕ} 0 1 = cc in omega arith)
 
+instead-got : (y : Parsed (List ℕ)) (bs ts : List ℕ) {left rest : List ℕ} → matches y ts ≡ got left rest → matches (instead y bs) ts ≡ got left bs
+unfolding instead matches
+instead-got bad bs ts e = cc
+instead-got (got w more) bs ts {left} {rest} e = go (strip w ts) e
+  where
+    go : (z : Parsed (Unit {0})) → after z (λ _ l. got l more) ≡ got left rest → after z (λ _ l. got l bs) ≡ got left bs
+    go bad e = cc
+    go (got u l) e = cc
+
 module _ (x : Call) where
   pub no-depth : x .depth ≡ 0 → whole x ≡ bad
   no-depth z = lost _ (fill-zero (filler x) (x .depth) _ z)
@@ -69,24 +78,23 @@ module _ (x : Call) where
     pub hole-open : x .at ≡ x .hole → length (x .p) < endOf (x .p) (skipItem (drop (x .at) (x .p))) → whole x ≡ bad
     hole-open e l = lost _ (in-hole e ∙ rw (missing (x .p) (x .at) skip-tail l))
 
-    module _ (e : x .at ≡ x .hole) (k : endOf (x .p) (skipItem (drop (x .at) (x .p))) ≤ length (x .p)) {r : Ends} (l : Landed (fillItem (plain (x .line) (x .others)) (x .depth - 1)) (x .q) (x .t) (x .from) (x .pos) r) where
+    module _ (e : x .at ≡ x .hole) (k : endOf (x .p) (skipItem (drop (x .at) (x .p))) ≤ length (x .p)) {r : Ends} (l : Landed (matching (fillItem (plain (x .line) (x .others)) (x .depth - 1))) (x .q) (x .t) (x .from) (x .pos) r) where
       filled : fillItem (filler x) (x .depth) (drop (x .at) (x .p)) ≡ instead (fillItem (plain (x .line) (x .others)) (x .depth - 1) (drop (x .from) (x .q))) (drop (endOf (x .p) (skipItem (drop (x .at) (x .p)))) (x .p))
       filled = in-hole e ∙ ap (λ y. after y (λ _. instead (fillItem (plain (x .line) (x .others)) (x .depth - 1) (drop (x .from) (x .q))))) (there (x .p) (x .at) skip-tail k .1)
 
       pub hole-other : length (x .t) < r .pos → whole x ≡ bad
       hole-other o = go l
         where
-          go : Landed (fillItem (plain (x .line) (x .others)) (x .depth - 1)) (x .q) (x .t) (x .from) (x .pos) r → whole x ≡ bad
+          go : Landed (matching (fillItem (plain (x .line) (x .others)) (x .depth - 1))) (x .q) (x .t) (x .from) (x .pos) r → whole x ≡ bad
           go (missed m n i) = rw filled (instead-lost _ _ _ m)
-          go (landed a s n i j) = absurd (omega arith)
+          go (landed a n i j) = absurd (omega arith)
 
       pub hole-same : r .pos ≤ length (x .t) → whole x ≡ got (drop (r .pos) (x .t)) (drop (endOf (x .p) (skipItem (drop (x .at) (x .p)))) (x .p))
-      unfolding matches instead
       hole-same o = go l
         where
-          go : Landed (fillItem (plain (x .line) (x .others)) (x .depth - 1)) (x .q) (x .t) (x .from) (x .pos) r → whole x ≡ got (drop (r .pos) (x .t)) (drop (endOf (x .p) (skipItem (drop (x .at) (x .p)))) (x .p))
+          go : Landed (matching (fillItem (plain (x .line) (x .others)) (x .depth - 1))) (x .q) (x .t) (x .from) (x .pos) r → whole x ≡ got (drop (r .pos) (x .t)) (drop (endOf (x .p) (skipItem (drop (x .at) (x .p)))) (x .p))
           go (missed m n i) = absurd (omega arith)
-          go (landed a s n i j) = rw (filled, a, s)
+          go (landed a n i j) = rw filled (instead-got _ _ _ a)
 
     module _ (n : x .at ≡ x .hole → ⊥) where
       apart : length (drop (x .at) (x .p)) ≡ filler x .hole → ⊥
@@ -112,4 +120,4 @@ module _ (x : Call) where
           other-byte o c = bracket ∙ never-front _ _ _ (byte-other 40 (x .t) (x .pos) o c)
 
           pub enters : x .pos < length (x .t) → getD (x .t) (x .pos) 0 ≡ 40 → Loop x (x .at + 1) (x .pos + 1)
-          enters o c = going-from (x .p) (x .t) (x .at + 1) (x .pos) bracket o c
+          enters o c = going-from (fillItem (filler x) (x .depth - 1)) (x .p) (x .t) (x .at + 1) (x .pos) bracket o c

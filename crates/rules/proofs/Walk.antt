@@ -1,6 +1,6 @@
 -- Walking over an item while its filled bytes are matched: the steps of `fillItem`, where it ends, and the loop over the inside.
 use Prim.Native.Nat.{ℕ, zero, suc, _+_, _-_, _≤_, _<_}
-use mathlib.Core.Path.{_≡_, refl, sym, _∙_, ap, subst}
+use mathlib.Core.Path.{_≡_, refl, sym, _∙_, ap, ap₂}
 use mathlib.Core.Bool.{Bool, true, false, cond}
 use mathlib.Core.List.{List, [], _∷_, _++_}
 use native.Mathlib.Decide.{ℕ-discrete}
@@ -17,7 +17,7 @@ use Rattle.reader.proofs.Plain.{number-plain}
 use Rattle.reader.proofs.Places.{at-byte}
 use Rattle.reader.proofs.Positions.{End, Tail, end-refl, end-trans, end-cons, end-drop, strip-tail, sound-tail, and-tail, skip-tail, closing-tail}
 use Rattle.rules.specs.declared.compare.Ends.{Ends}
-use Rattle.rules.specs.Filled.{Filler, front, insideUpTo, inside, readIndex, indexed, instead, fillItem, matches, endsOf}
+use Rattle.rules.specs.Filled.{Filler, front, insideUpTo, inside, readIndex, indexed, instead, fillItem, matches, endsOf, along}
 
 -- The steps of filling.
 module _ (f : Filler) where
@@ -154,108 +154,142 @@ matches-front w (got ws rest) ts = rw (strip-append w ws ts) (go (strip w ts))
     go bad = refl
     go (got u left) = refl
 
--- Where an item that was filled and matched ends.
-pub data Landed (item : Reader (List ℕ)) (p t : List ℕ) (i j : ℕ) (e : Ends) : Type 0 where
-  missed : matches (item (drop i p)) (drop j t) ≡ bad → length p < e .at → length t < e .pos → Landed item p t i j e
-  landed : {w : List ℕ} → item (drop i p) ≡ got w (drop (e .at) p) → strip w (drop j t) ≡ got tt (drop (e .pos) t) → i < e .at → e .at ≤ length p → e .pos ≤ length t → Landed item p t i j e
-
-module _ {item : Reader (List ℕ)} (s : Shrinks item) (p t : List ℕ) (i j : ℕ) where
-  land-got : (w rest : List ℕ) → item (drop i p) ≡ got w rest → Less (drop i p) rest → {y : Parsed (Unit {0})} → strip w (drop j t) ≡ y → Gives (λ _ left. End (drop j t) left) y → Landed item p t i j (endsOf p t (after y (λ _ left. got left rest)))
-  unfolding matches endsOf
-  land-got w rest ei l ey nothing = missed (rw (ei, ey)) (omega arith) (omega arith)
-  land-got w rest ei l ey (gives {a = u} {rest = left} k) =
-      let n = length-drop i p in
-      landed {w = w} (ei ∙ ap (got w) (sym (end-drop p i rest (l .tail)))) (ey ∙ ap (got tt) (sym (end-drop t j left k))) (omega (arith, l .less)) (omega arith) (omega arith)
-
-  land-item : {x : Parsed (List ℕ)} → item (drop i p) ≡ x → Gives (λ _ rest. Less (drop i p) rest) x → Landed item p t i j (endsOf p t (matches x (drop j t)))
-  unfolding matches endsOf
-  land-item ei nothing = missed (rw ei) (omega arith) (omega arith)
-  land-item ei (gives {a = w} {rest} l) = land-got w rest ei l refl (strip-tail w .tail (drop j t))
-
-  pub land : {e : Ends} → e ≡ endsOf p t (matches (item (drop i p)) (drop j t)) → Landed item p t i j e
-  land q = rw q (land-item refl (s .shrinks (drop i p)))
-
 pub never-front : (w : List ℕ) (p : Parsed (List ℕ)) (ts : List ℕ) → strip w ts ≡ bad → matches (front w p) ts ≡ bad
 never-front w p ts b = matches-front w p ts ∙ rw b
 
--- The steps of the inside.
-module _ (item : Reader (List ℕ)) (k b : ℕ) (bs : List ℕ) where
-  inside-open : b ≡ 40 → insideUpTo item (suc k) (b ∷ bs) ≡ after (item (b ∷ bs)) (λ w rest. front w (insideUpTo item k rest))
-  unfolding insideUpTo
-  inside-open e = rw e
+-- Two texts read along, and both get shorter.
+abbrev pub Pair : Type 0
+Pair = List ℕ → List ℕ → Parsed (List ℕ)
 
-  inside-close : b ≡ 41 → insideUpTo item (suc k) (b ∷ bs) ≡ got (41 ∷ []) bs
-  unfolding insideUpTo
-  inside-close e = rw e
+pub record Both (ps ts left rest : List ℕ) : Type 0 where
+  pub first : Less ps rest
+  pub second : End ts left
 
-  inside-on : (b ≡ 40 → ⊥) → (b ≡ 41 → ⊥) → insideUpTo item (suc k) (b ∷ bs) ≡ front (b ∷ []) (insideUpTo item k bs)
-  unfolding insideUpTo
-  inside-on o c = rw (ne-eqb b 41 c, ne-eqb b 40 o)
+pub record Shortens (item : Pair) : Type 0 where
+  pub shortens : (ps ts : List ℕ) → Gives (λ left rest. Both ps ts left rest) (item ps ts)
 
-never-open : (x : Parsed (List ℕ)) (next : Reader (List ℕ)) (ts : List ℕ) → matches x ts ≡ bad → matches (after x (λ w rest. front w (next rest))) ts ≡ bad
+abbrev pub matching : Reader (List ℕ) → Pair
+matching item ps ts = matches (item ps) ts
+
+pub matching-shortens : {item : Reader (List ℕ)} → Shrinks item → Shortens (matching item)
 unfolding matches
-never-open bad next ts e = refl
-never-open (got w rest) next ts e = matches-front w (next rest) ts ∙ go (strip w ts) e
+matching-shortens {item} s = record { shortens = λ ps ts. go ps ts (s .shrinks ps) }
   where
-    go : (y : Parsed (Unit {0})) → after y (λ _ left. got left rest) ≡ bad → after y (λ _. matches (next rest)) ≡ bad
-    go bad e = refl
-    go (got u left) e = absurd (let z : _≡_ {A = ℕ} 0 1 = cc in omega arith)
+    go : (ps ts : List ℕ) {x : Parsed (List ℕ)} → Gives (λ _ rest. Less ps rest) x → Gives (λ left rest. Both ps ts left rest) (matches x ts)
+    go ps ts nothing = nothing
+    go ps ts (gives {a = w} l) = bind (strip-tail w .tail ts) (λ _ left e. gives (record { first = l; second = e }))
+
+-- Where it ends.
+pub data Landed (item : Pair) (p t : List ℕ) (i j : ℕ) (e : Ends) : Type 0 where
+  missed : item (drop i p) (drop j t) ≡ bad → length p < e .at → length t < e .pos → Landed item p t i j e
+  landed : item (drop i p) (drop j t) ≡ got (drop (e .pos) t) (drop (e .at) p) → i < e .at → e .at ≤ length p → e .pos ≤ length t → Landed item p t i j e
+
+module _ {item : Pair} (s : Shortens item) (p t : List ℕ) (i j : ℕ) where
+  land-item : {x : Parsed (List ℕ)} → item (drop i p) (drop j t) ≡ x → Gives (λ left rest. Both (drop i p) (drop j t) left rest) x → Landed item p t i j (endsOf p t x)
+  unfolding endsOf
+  land-item e nothing = missed e (omega arith) (omega arith)
+  land-item e (gives {a = left} {rest} b) =
+      let n = length-drop i p in
+      landed (e ∙ ap₂ got (sym (end-drop t j left (b .second))) (sym (end-drop p i rest (b .first .tail)))) (omega (arith, b .first .less)) (omega arith) (omega arith)
+
+  pub land : {e : Ends} → e ≡ endsOf p t (item (drop i p) (drop j t)) → Landed item p t i j e
+  land q = rw q (land-item refl (s .shortens (drop i p) (drop j t)))
 
 -- Within the text, what was matched ends behind its beginning.
-pub further : {item : Reader (List ℕ)} {p t : List ℕ} {i j : ℕ} {e : Ends} → Landed item p t i j e → e .at ≤ length p → (i < e .at) × (e .pos ≤ length t)
+pub further : {item : Pair} {p t : List ℕ} {i j : ℕ} {e : Ends} → Landed item p t i j e → e .at ≤ length p → (i < e .at) × (e .pos ≤ length t)
 further (missed m o k) h = absurd (omega arith)
-further (landed a r n o k) h = (n, k)
+further (landed a n o k) h = (n, k)
 
--- The loop over the inside of an item: the whole is what is left, in enough steps.
-pub record Going (item : Reader (List ℕ)) (p t : List ℕ) (whole : Parsed (List ℕ)) (i j : ℕ) : Type 0 where
+-- The steps of two insides.
+module _ (item : Pair) (k b : ℕ) (ps ts : List ℕ) where
+  along-open : b ≡ 40 → along item (suc k) (b ∷ ps) ts ≡ after (item (b ∷ ps) ts) (λ left rest. along item k rest left)
+  unfolding along
+  along-open e = rw e
+
+  along-close : b ≡ 41 → along item (suc k) (b ∷ ps) ts ≡ after (strip (41 ∷ []) ts) (λ _ left. got left ps)
+  unfolding along
+  along-close e = rw e
+
+  along-on : (b ≡ 40 → ⊥) → (b ≡ 41 → ⊥) → along item (suc k) (b ∷ ps) ts ≡ after (strip (b ∷ []) ts) (λ _ left. along item k ps left)
+  unfolding along
+  along-on o c = rw (ne-eqb b 41 c, ne-eqb b 40 o)
+
+-- Filling the inside and matching it is reading along.
+matches-cond : (y : Bool) (v w : Parsed (List ℕ)) (ts : List ℕ) → matches (cond y v w) ts ≡ cond y (matches v ts) (matches w ts)
+matches-cond true v w ts = refl
+matches-cond false v w ts = refl
+
+module _ (item : Reader (List ℕ)) (k : ℕ) (onward : (ps ts : List ℕ) → matches (insideUpTo item k ps) ts ≡ along (matching item) k ps ts) where
+  along-on-both : (y : Parsed (Unit {0})) (ps : List ℕ) → after y (λ _. matches (insideUpTo item k ps)) ≡ after y (λ _ left. along (matching item) k ps left)
+  along-on-both bad ps = refl
+  along-on-both (got u left) ps = onward ps left
+
+  along-part : (x : Parsed (List ℕ)) (ts : List ℕ) → matches (after x (λ w rest. front w (insideUpTo item k rest))) ts ≡ after (matches x ts) (λ left rest. along (matching item) k rest left)
+  unfolding matches
+  along-part bad ts = refl
+  along-part (got w rest) ts = matches-front w (insideUpTo item k rest) ts ∙ along-on-both (strip w ts) rest ∙ go (strip w ts)
+    where
+      go : (y : Parsed (Unit {0})) → after y (λ _ left. along (matching item) k rest left) ≡ after (after y (λ _ left. got left rest)) (λ left more. along (matching item) k more left)
+      go bad = refl
+      go (got u left) = refl
+
+pub inside-along : (item : Reader (List ℕ)) (k : ℕ) (ps ts : List ℕ) → matches (insideUpTo item k ps) ts ≡ along (matching item) k ps ts
+unfolding insideUpTo along matches
+inside-along item zero ps ts = refl
+inside-along item (suc k) [] ts = refl
+inside-along item (suc k) (b ∷ ps) ts =
+    matches-cond (eqb b 41) _ _ ts
+    ∙ ap₂ (cond (eqb b 41)) refl (matches-cond (eqb b 40) _ _ ts
+    ∙ ap₂ (cond (eqb b 40)) (along-part item k (inside-along item k) (item (b ∷ ps)) ts) (matches-front (b ∷ []) (insideUpTo item k ps) ts ∙ along-on-both item k (inside-along item k) (strip (b ∷ []) ts) ps))
+
+-- The loop over two insides: the whole is what is left, in enough steps.
+pub record Going (item : Pair) (p t : List ℕ) (all : Parsed (List ℕ)) (i j : ℕ) : Type 0 where
   pub steps : ℕ
   pub enough : length p - i ≤ steps
-  pub left : whole ≡ matches (insideUpTo item steps (drop i p)) (drop j t)
+  pub left : all ≡ along item steps (drop i p) (drop j t)
 
-module _ {item : Reader (List ℕ)} (p t : List ℕ) {whole : Parsed (List ℕ)} where
-  pub going-from : (i j : ℕ) → whole ≡ matches (front (40 ∷ []) (inside item (drop i p))) (drop j t) → j < length t → getD t j 0 ≡ 40 → Going item p t whole i (j + 1)
-  unfolding inside
-  going-from i j e h b = record { steps = length (drop i p); enough = omega (arith, length-drop i p); left = e ∙ matches-front (40 ∷ []) _ (drop j t) ∙ rw (byte-here 40 t j h b) }
+module _ {item : Pair} (p t : List ℕ) {all : Parsed (List ℕ)} (i j : ℕ) (g : Going item p t all i j) where
+  pub going-end : length p ≤ i → all ≡ bad
+  unfolding along
+  going-end h = g .left ∙ rw (drop-of-length-le p h) (none (g .steps))
+    where
+      none : (k : ℕ) → along item k [] (drop j t) ≡ bad
+      none zero = refl
+      none (suc k) = refl
 
-  module _ (i j : ℕ) (g : Going item p t whole i j) where
-    pub going-end : length p ≤ i → whole ≡ bad
-    unfolding matches insideUpTo
-    going-end h = g .left ∙ rw (drop-of-length-le p h) (none (g .steps))
-      where
-        none : (k : ℕ) → matches (insideUpTo item k []) (drop j t) ≡ bad
-        none zero = refl
-        none (suc k) = refl
+  module _ (h : i < length p) where
+    more : suc (g .steps - 1) ≡ g .steps
+    more = omega (arith, g .enough)
 
-    module _ (h : i < length p) where
-      steps : ℕ
-      steps = g .steps - 1
+    stepped : all ≡ along item (suc (g .steps - 1)) (getD p i 0 ∷ drop (i + 1) p) (drop j t)
+    stepped = g .left ∙ rw (at-byte p i h, more)
 
-      more : suc (g .steps - 1) ≡ g .steps
-      more = omega (arith, g .enough)
+    opened : getD p i 0 ≡ 40 → all ≡ after (item (drop i p) (drop j t)) (λ left rest. along item (g .steps - 1) rest left)
+    opened b = stepped ∙ rw (along-open item (g .steps - 1) (getD p i 0) (drop (i + 1) p) (drop j t) b, ← at-byte p i h)
 
-      stepped : whole ≡ matches (insideUpTo item (suc (g .steps - 1)) (getD p i 0 ∷ drop (i + 1) p)) (drop j t)
-      stepped = g .left ∙ rw (at-byte p i h, more)
+    pub going-part : getD p i 0 ≡ 40 → {e : Ends} → Landed item p t i j e → e .at ≤ length p → Going item p t all (e .at) (e .pos)
+    going-part b (missed m o k) l = absurd (omega arith)
+    going-part b (landed a n o k) l = record { steps = g .steps - 1; enough = omega (arith, g .enough); left = opened b ∙ rw a }
 
-      pub going-part : getD p i 0 ≡ 40 → {e : Ends} → Landed item p t i j e → e .at ≤ length p → Going item p t whole (e .at) (e .pos)
-      going-part b (missed m o k) l = absurd (omega arith)
-      going-part b (landed {w} a r n o k) l = record { steps = g .steps - 1; enough = omega (arith, g .enough); left = stepped ∙ rw (inside-open item (g .steps - 1) (getD p i 0) (drop (i + 1) p) b, ← at-byte p i h, a, matches-front, r) }
+    pub never-part : getD p i 0 ≡ 40 → {e : Ends} → Landed item p t i j e → length p < e .at → all ≡ bad
+    never-part b (missed m o k) l = opened b ∙ rw m
+    never-part b (landed a n o k) l = absurd (omega arith)
 
-      pub never-part : getD p i 0 ≡ 40 → {e : Ends} → Landed item p t i j e → length p < e .at → whole ≡ bad
-      never-part b (missed m o k) l = stepped ∙ rw (inside-open item (g .steps - 1) (getD p i 0) (drop (i + 1) p) b, ← at-byte p i h) (never-open _ _ (drop j t) m)
-      never-part b (landed {w} a r n o k) l = absurd (omega arith)
+    module _ (b : getD p i 0 ≡ 40 → ⊥) where
+      pub going-closed : j < length t → getD t j 0 ≡ getD p i 0 → getD p i 0 ≡ 41 → all ≡ got (drop (j + 1) t) (drop (i + 1) p)
+      going-closed k e c = stepped ∙ rw (along-close item (g .steps - 1) (getD p i 0) (drop (i + 1) p) (drop j t) c, byte-here 41 t j k (e ∙ c))
 
-      module _ (b : getD p i 0 ≡ 40 → ⊥) where
-        pub going-closed : j < length t → getD t j 0 ≡ getD p i 0 → getD p i 0 ≡ 41 → whole ≡ got (drop (j + 1) t) (drop (i + 1) p)
-        unfolding matches
-        going-closed k e c = stepped ∙ rw (inside-close item (g .steps - 1) (getD p i 0) (drop (i + 1) p) c, byte-here 41 t j k (e ∙ c))
+      pub going-on : j < length t → getD t j 0 ≡ getD p i 0 → (getD p i 0 ≡ 41 → ⊥) → Going item p t all (i + 1) (j + 1)
+      going-on k e c = record { steps = g .steps - 1; enough = omega (arith, g .enough); left = stepped ∙ rw (along-on item (g .steps - 1) (getD p i 0) (drop (i + 1) p) (drop j t) b c, byte-here (getD p i 0) t j k e) }
 
-        pub going-on : j < length t → getD t j 0 ≡ getD p i 0 → (getD p i 0 ≡ 41 → ⊥) → Going item p t whole (i + 1) (j + 1)
-        going-on k e c = record { steps = g .steps - 1; enough = omega (arith, g .enough); left = stepped ∙ rw (inside-on item (g .steps - 1) (getD p i 0) (drop (i + 1) p) b c, matches-front, byte-here (getD p i 0) t j k e) }
+      pub never-on : strip (getD p i 0 ∷ []) (drop j t) ≡ bad → all ≡ bad
+      never-on e = stepped ∙ go (ℕ-discrete (getD p i 0) 41)
+        where
+          go : Dec (getD p i 0 ≡ 41) → along item (suc (g .steps - 1)) (getD p i 0 ∷ drop (i + 1) p) (drop j t) ≡ bad
+          go (yes c) = rw (along-close item (g .steps - 1) (getD p i 0) (drop (i + 1) p) (drop j t) c, ← c, e)
+          go (no c) = rw (along-on item (g .steps - 1) (getD p i 0) (drop (i + 1) p) (drop j t) b c, e)
 
-        pub never-on : strip (getD p i 0 ∷ []) (drop j t) ≡ bad → whole ≡ bad
-        unfolding matches
-        never-on e = stepped ∙ go (ℕ-discrete (getD p i 0) 41)
-          where
-            go : Dec (getD p i 0 ≡ 41) → matches (insideUpTo item (suc (g .steps - 1)) (getD p i 0 ∷ drop (i + 1) p)) (drop j t) ≡ bad
-            go (yes c) = rw (inside-close item (g .steps - 1) (getD p i 0) (drop (i + 1) p) c, ← c, e)
-            go (no c) = rw (inside-on item (g .steps - 1) (getD p i 0) (drop (i + 1) p) b c) (never-front _ _ (drop j t) e)
+-- A bracket of the filled item, and of the text.
+pub going-from : (item : Reader (List ℕ)) (p t : List ℕ) {all : Parsed (List ℕ)} (i j : ℕ) → all ≡ matches (front (40 ∷ []) (inside item (drop i p))) (drop j t) → j < length t → getD t j 0 ≡ 40 → Going (matching item) p t all i (j + 1)
+unfolding inside
+going-from item p t i j e h b = record { steps = length (drop i p); enough = omega (arith, length-drop i p); left = e ∙ matches-front (40 ∷ []) _ (drop j t) ∙ rw (byte-here 40 t j h b) (inside-along item (length (drop i p)) (drop i p) (drop (j + 1) t)) }
