@@ -13,7 +13,9 @@ use Rattle.reader.specs.Places.{endOf}
 use Rattle.reader.specs.Access.{closing, skipItem, passItem, toItem, opening, toArgument, more, howMany, places, entryOf}
 use Rattle.reader.proofs.Places.{at-byte}
 use Rattle.reader.proofs.Tests.{onTest}
-use Rattle.reader.proofs.Gives.{Gives, nothing, gives, given, weaken, bind, strip-gives}
+use Rattle.reader.proofs.Gives.{Gives, nothing, gives, given, weaken, bind, strip-gives, Sound}
+use Rattle.reader.proofs.Plain.{Plain}
+use Rattle.reader.specs.Write.{Writer}
 
 -- The item's first byte.
 pub skip-none : (s : List ℕ) (at : ℕ) → length s ≤ at → skipItem (drop at s) ≡ bad
@@ -73,6 +75,10 @@ end-cons b {bs} {rest} p = let e : suc (length bs) - length rest ≡ suc (length
 
 pub strip-tail : (w : List ℕ) → Tail (strip w)
 strip-tail w = record { tail = λ bs. weaken (strip-gives w bs) (λ _ rest e. rw e (end-append w rest)) }
+
+-- What is read is what was written.
+pub sound-tail : {A : Type 0} {put : A → Writer} {F : A → Type 0} {read : Reader A} → Sound put F read → ((a : A) → Plain (put a)) → Tail read
+sound-tail s plain = record { tail = λ bs. weaken (s .at bs) (λ a rest q. rw (q .0, plain a .puts rest) (end-append (plain a .front) rest)) }
 
 -- The bytes from that place on.
 pub end-drop : (s : List ℕ) (at : ℕ) (rest : List ℕ) → End (drop at s) rest → drop (length s - length rest) s ≡ rest

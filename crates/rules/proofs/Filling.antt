@@ -21,7 +21,7 @@ use Rattle.reader.proofs.Number.{number-complete}
 use Rattle.reader.proofs.Plain.{number-plain, in-front, put-grows}
 use Rattle.reader.proofs.Trees.{Tree, var, node, Trees, end, byte, part, putTree, putInside, opens, Clean, CleanIn, Within, WithinIn, numberBytes, texts, Below, treeTerm, treeTerms, treeArguments, treeResult, treeAtom, treeLiteral, put-term, put-atom, put-literal, clean-term, clean-atom, clean-literal, within-term, within-atom, within-literal}
 use Rattle.reader.proofs.Nesting.{inner-tests}
-use Rattle.rules.specs.Filled.{Filler, front, insideUpTo, inside, readIndex, fillItem}
+use Rattle.rules.specs.Filled.{Filler, front, insideUpTo, inside, readIndex, indexed, fillItem}
 
 unfoldable mutual
   pub fillTree : (ℕ → Tree) → Tree → Tree
@@ -85,7 +85,7 @@ clear-here {hole} {low} {high} (before-it h) l = ne-eqb high hole (omega arith)
 
 module _ (f : Filler) (σ : ℕ → Tree) (P : ℕ → Type 0) (formed : (n : ℕ) → P n → T (formedNumber n)) (entry : (n : ℕ) → P n → f .entry n ≡ putTree (σ n) []) where
   mutual
-    unfolding fillItem fillTree putTree inside insideUpTo readIndex oneOf strip digit front
+    unfolding fillItem fillTree putTree inside insideUpTo readIndex indexed oneOf strip digit front
 
     pub fill-tree : (t : Tree) (d : ℕ) → Clean t → Within P t d → (rest : List ℕ) → Clear (f .hole) (length rest) (length (putTree t rest)) → fillItem f d (putTree t rest) ≡ got (putTree (fillTree σ t) []) rest
     fill-tree (var n) zero c w rest o = absurd w

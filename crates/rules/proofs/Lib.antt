@@ -2,3 +2,6 @@ pub mod Flags
 pub mod Filling
 pub mod Placing
 pub mod Targets
+pub mod Walk
+pub mod Answers
+pub mod Expected

@@ -4,7 +4,7 @@ use mathlib.Core.Bool.{Bool, true, false, cond}
 use mathlib.Core.List.{List, [], _∷_, _++_}
 use lib.Dec.{eqb}
 use lib.ListN.{length, drop}
-use Rattle.reader.specs.Read.{Parsed, bad, got, Reader, after, _>>=_, _>>_, return, Branch, _⇒_, oneOf, strip, skip, readNumber}
+use Rattle.reader.specs.Read.{Parsed, bad, got, Reader, after, _>>=_, _>>_, return, Branch, _⇒_, orElse, oneOf, strip, skip, readNumber}
 use Rattle.reader.specs.Access.{skipItem, entryOf}
 use Rattle.rules.specs.declared.compare.Ends.{Ends}
 
@@ -32,6 +32,10 @@ readIndex = do
   skip ")"
   return n
 
+-- A variable, from its number on: its entry's bytes.
+unfoldable pub indexed : (ℕ → List ℕ) → Reader (List ℕ)
+indexed entry = readIndex >>= (λ n. return (entry n))
+
 -- The variables' entries; the hole, as the number of bytes from there to the end; what goes into it, at a depth.
 pub record Filler : Type 0 where
   pub entry : ℕ → List ℕ
@@ -48,8 +52,7 @@ unfoldable pub fillItem : Filler → ℕ → Reader (List ℕ)
 fillItem f zero bs = bad
 fillItem f (suc depth) bs =
     let replaced = (skipItem >> instead (f .new depth)) bs in
-    let variable = readIndex >>= (λ n. return (f .entry n)) in
-    let kept = oneOf (("(v " ⇒ variable) ∷ ("(" ⇒ (λ inner. front (40 ∷ []) (inside (fillItem f depth) inner))) ∷ []) bs in
+    let kept = oneOf (("(v " ⇒ indexed (f .entry)) ∷ ("(" ⇒ (λ inner. front (40 ∷ []) (inside (fillItem f depth) inner))) ∷ []) bs in
     cond (eqb (length bs) (f .hole)) replaced kept
 
 -- No hole: no item has 0 bytes.
@@ -69,3 +72,35 @@ matches (got ws rest) ts = after (strip ws ts) (λ _ left. got left rest)
 unfoldable pub endsOf : List ℕ → List ℕ → Parsed (List ℕ) → Ends
 endsOf s t bad = record { at = length s + 1; pos = length t + 1 }
 endsOf s t (got left rest) = record { at = length s - length rest; pos = length t - length left }
+
+-- Two insides byte by byte, nested items by `item`, up to the closing bracket: the bytes after it in the second, and in the first.
+unfoldable pub along : (List ℕ → List ℕ → Parsed (List ℕ)) → ℕ → List ℕ → List ℕ → Parsed (List ℕ)
+along item zero ps ts = bad
+along item (suc k) [] ts = bad
+along item (suc k) (b ∷ ps) ts =
+    let part = after (item (b ∷ ps) ts) (λ left rest. along item k rest left) in
+    let closed = after (strip (41 ∷ []) ts) (λ _ left. got left ps) in
+    let on = after (strip (b ∷ []) ts) (λ _ left. along item k ps left) in
+    cond (eqb b 41) closed (cond (eqb b 40) part on)
+
+-- A variable's entry against the other item, filled: the bytes are the same, and nothing is left of either.
+unfoldable pub whole : Parsed (List ℕ) → List ℕ → Parsed (List ℕ)
+whole bad rest = bad
+whole (got [] other) rest = got other rest
+whole (got (b ∷ bs) other) rest = bad
+
+unfoldable pub both : Parsed (List ℕ) → Parsed (List ℕ) → Parsed (List ℕ)
+both bad y = bad
+both (got w rest) y = whole (matches y w) rest
+
+unfoldable pub turned : Parsed (List ℕ) → Parsed (List ℕ)
+turned bad = bad
+turned (got left rest) = got rest left
+
+-- Two items, each filled by its own list, are the same: the bytes after the second, and after the first.
+unfoldable pub sameItem : Filler → Filler → ℕ → List ℕ → List ℕ → Parsed (List ℕ)
+sameItem f g zero ps qs = bad
+sameItem f g (suc depth) ps qs =
+    let nested = after (skip "(" ps) (λ _ cs. after (skip "(" qs) (λ _ ds. along (sameItem f g depth) (length cs) cs ds)) in
+    let second = orElse (skip "(v " qs) (λ cs. turned (both (indexed (g .entry) cs) (fillItem f (suc depth) ps))) (λ _. nested) qs in
+    orElse (skip "(v " ps) (λ cs. both (indexed (f .entry) cs) (fillItem g (suc depth) qs)) (λ _. second) ps

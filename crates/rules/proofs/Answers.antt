@@ -1,0 +1,79 @@
+-- The answers of the comparing functions, from the places that they found.
+use Prim.Native.Nat.{ℕ, _+_, _-_, _≤_, _<_}
+use mathlib.Core.Path.{_≡_, refl, sym, _∙_, ap}
+use mathlib.Core.List.{List, [], _∷_}
+use native.Mathlib.Omega.{arith}
+use lib.ListN.{length, drop, length-drop, drop-of-length-le}
+use Rattle.reader.specs.declared.numbers.NumberAt.{NumberAt}
+use Rattle.reader.specs.Read.{Parsed, bad, got, Reader, after, strip, readNumber}
+use Rattle.reader.specs.Places.{endOf, readOr, numberAt}
+use Rattle.reader.proofs.Gives.{Gives, nothing, gives}
+use Rattle.reader.proofs.Number.{number-sound}
+use Rattle.reader.proofs.Plain.{number-plain}
+use Rattle.reader.proofs.Positions.{End, Tail, end-trans, end-drop, strip-tail, sound-tail}
+use Rattle.rules.specs.declared.compare.Ends.{Ends}
+use Rattle.rules.specs.Filled.{readIndex, indexed, matches, endsOf}
+
+-- A place within the text is where the rest stands; a place past its end says that nothing was read.
+module _ {A : Type 0} (s : List ℕ) (at : ℕ) {read : Reader A} (t : Tail read) where
+  pub missing : length s < endOf s (read (drop at s)) → read (drop at s) ≡ bad
+  unfolding endOf
+  missing h = go (t .tail (drop at s)) h
+    where
+      go : {x : Parsed A} → Gives (λ _ rest. End (drop at s) rest) x → length s < endOf s x → x ≡ bad
+      go nothing h = refl
+      go (gives e) h = absurd (omega arith)
+
+  pub there : endOf s (read (drop at s)) ≤ length s → (a : A) × (read (drop at s) ≡ got a (drop (endOf s (read (drop at s))) s))
+  unfolding endOf
+  there h = go (t .tail (drop at s)) h
+    where
+      go : {x : Parsed A} → Gives (λ _ rest. End (drop at s) rest) x → endOf s x ≤ length s → (a : A) × (x ≡ got a (drop (endOf s x) s))
+      go nothing h = absurd (omega arith)
+      go (gives {a} {rest} e) h = (a, ap (got a) (sym (end-drop s at rest e)))
+
+pub ends-at : (p t : List ℕ) (i j : ℕ) {whole : Parsed (List ℕ)} → i ≤ length p → j ≤ length t → whole ≡ got (drop j t) (drop i p) → record { at = i; pos = j } ≡ endsOf p t whole
+unfolding endsOf
+ends-at p t i j h k e =
+    let a : i ≡ length p - length (drop i p) = omega (arith, length-drop i p) in
+    let b : j ≡ length t - length (drop j t) = omega (arith, length-drop j t) in
+    rw e (λ x. record { at = a x; pos = b x })
+
+pub ends-bad : (p t : List ℕ) {e : Ends} {whole : Parsed (List ℕ)} → e ≡ endsOf p t bad → whole ≡ bad → e ≡ endsOf p t whole
+ends-bad p t e w = rw w e
+
+-- A variable's number and the bracket behind it.
+pub data Indexed (entry : ℕ → List ℕ) (p : List ℕ) (at v end : ℕ) : Type 0 where
+  without : indexed entry (drop at p) ≡ bad → length p < end → Indexed entry p at v end
+  index : indexed entry (drop at p) ≡ got (entry v) (drop end p) → end ≤ length p → Indexed entry p at v end
+
+module _ (entry : ℕ → List ℕ) (p : List ℕ) (at : ℕ) where
+  closed : (n : ℕ) (rest : List ℕ) → End (drop at p) rest → readNumber (drop at p) ≡ got n rest → {y : Parsed (Unit {0})} → strip (41 ∷ []) rest ≡ y → Gives (λ _ left. End rest left) y → Indexed entry p at n (endOf p y)
+  unfolding indexed readIndex endOf
+  closed n rest e r c nothing = without (rw (r, c)) (omega arith)
+  closed n rest e r c (gives {rest = left} k) = index (rw (r, c) (ap (got (entry n)) (sym (end-drop p at left (end-trans e k))))) (omega arith)
+
+  numbered : {x : Parsed ℕ} → readNumber (drop at p) ≡ x → Gives (λ _ rest. End (drop at p) rest) x → Indexed entry p at (readOr 0 (λ n. n) x) (endOf p (strip (41 ∷ []) (drop (endOf p x) p)))
+  unfolding indexed readIndex endOf readOr strip
+  numbered r nothing = rw (drop-of-length-le p {i = length p + 1} (omega arith)) (without (rw r) (omega arith))
+  numbered r (gives {a = n} {rest} e) = rw (end-drop p at rest e) (closed n rest e r refl (strip-tail (41 ∷ []) .tail rest))
+
+  pub find-index : {n : NumberAt} {end : ℕ} → n ≡ numberAt p (readNumber (drop at p)) → end ≡ endOf p (strip (41 ∷ []) (drop (n .end) p)) → Indexed entry p at (n .value) end
+  unfolding numberAt
+  find-index e f = rw (f, e) (numbered refl (sound-tail number-sound number-plain .tail (drop at p)))
+
+module _ {entry : ℕ → List ℕ} {p : List ℕ} {at v end : ℕ} (t : List ℕ) (pos : ℕ) where
+  pub entry-lost : Indexed entry p at v end → length p < end → matches (indexed entry (drop at p)) (drop pos t) ≡ bad
+  unfolding matches
+  entry-lost (without e l) h = rw e
+  entry-lost (index e l) h = absurd (omega arith)
+
+  pub entry-other : Indexed entry p at v end → end ≤ length p → length t < endOf t (strip (entry v) (drop pos t)) → matches (indexed entry (drop at p)) (drop pos t) ≡ bad
+  unfolding matches
+  entry-other (without e l) h n = absurd (omega arith)
+  entry-other (index e l) h n = rw (e, missing t pos (strip-tail (entry v)) n)
+
+  pub entry-same : Indexed entry p at v end → end ≤ length p → endOf t (strip (entry v) (drop pos t)) ≤ length t → matches (indexed entry (drop at p)) (drop pos t) ≡ got (drop (endOf t (strip (entry v) (drop pos t))) t) (drop end p)
+  unfolding matches
+  entry-same (without e l) h n = absurd (omega arith)
+  entry-same (index e l) h n = rw e (ap (λ y. after y (λ _ left. got left (drop end p))) (there t pos (strip-tail (entry v)) n .1))

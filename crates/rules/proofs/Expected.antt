@@ -1,0 +1,123 @@
+-- What `expect` finds, at each place where it answers.
+use Prim.Native.Nat.{ℕ, _+_, _-_, _≤_, _<_}
+use mathlib.Core.Path.{_≡_, refl, sym, _∙_, ap, fun-ext}
+use mathlib.Core.List.{List, [], _∷_}
+use native.Mathlib.Omega.{arith}
+use lib.ListN.{length, drop, getD, length-drop, drop-of-length-le}
+use Rattle.reader.specs.Read.{Parsed, bad, got, Reader, after, strip}
+use Rattle.reader.specs.Places.{endOf}
+use Rattle.reader.specs.Access.{skipItem, entryOf}
+use Rattle.reader.proofs.Positions.{strip-tail, skip-tail}
+use Rattle.rules.specs.declared.compare.Ends.{Ends}
+use Rattle.rules.specs.Filled.{Filler, instead, indexed, front, inside, fillItem, plain, replacing, matches, endsOf}
+use Rattle.rules.proofs.Walk.{fill-zero, fill-empty, fill-hole, fill-variable, fill-bracket, fill-other, fill-shrinks, byte-here, byte-none, byte-other, Landed, missed, landed, land, Going, going-from, never-front, matching}
+use Rattle.rules.proofs.Answers.{missing, there, ends-at, ends-bad}
+
+-- A call of `expect`.
+pub record Call : Type 0 where
+  pub p : List ℕ
+  pub at : ℕ
+  pub depth : ℕ
+  pub line : List ℕ
+  pub starts : List ℕ
+  pub hole : ℕ
+  pub q : List ℕ
+  pub from : ℕ
+  pub others : List ℕ
+  pub t : List ℕ
+  pub pos : ℕ
+
+abbrev pub filler : Call → Filler
+filler x = replacing (x .line) (x .starts) (length (x .p) - x .hole) (x .q) (x .from) (x .others)
+
+abbrev pub whole : Call → Parsed (List ℕ)
+whole x = matches (fillItem (filler x) (x .depth) (drop (x .at) (x .p))) (drop (x .pos) (x .t))
+
+abbrev pub Loop : Call → ℕ → ℕ → Type 0
+Loop x i j = Going (matching (fillItem (filler x) (x .depth - 1))) (x .p) (x .t) (whole x) i j
+
+pub lost : {y : Parsed (List ℕ)} (ts : List ℕ) → y ≡ bad → matches y ts ≡ bad
+unfolding matches
+lost ts e = rw e
+
+-- With no hole, whatever would stand in it.
+pub no-hole : (line starts others : List ℕ) (n : ℕ) → n ≡ 0 → replacing line starts n [] 0 others ≡ plain line starts
+unfolding replacing plain
+no-hole line starts others n z = rw z (λ i. record { entry = entryOf line starts; hole = 0; new = fun-ext (λ d. fill-empty (plain line others) d) i })
+
+instead-lost : (y : Parsed (List ℕ)) (bs ts : List ℕ) → matches y ts ≡ bad → matches (instead y bs) ts ≡ bad
+unfolding instead matches
+instead-lost bad bs ts e = refl
+instead-lost (got w rest) bs ts e = go (strip w ts) e
+  where
+    go : (z : Parsed (Unit {0})) → after z (λ _ left. got left rest) ≡ bad → after z (λ _ left. got left bs) ≡ bad
+    go bad e = refl
+    go (got u left) e = absurd (let z : _≡_ {A = ℕ} 0 1 = cc in omega arith)
+
+instead-got : (y : Parsed (List ℕ)) (bs ts : List ℕ) {left rest : List ℕ} → matches y ts ≡ got left rest → matches (instead y bs) ts ≡ got left bs
+unfolding instead matches
+instead-got bad bs ts e = cc
+instead-got (got w more) bs ts {left} {rest} e = go (strip w ts) e
+  where
+    go : (z : Parsed (Unit {0})) → after z (λ _ l. got l more) ≡ got left rest → after z (λ _ l. got l bs) ≡ got left bs
+    go bad e = cc
+    go (got u l) e = cc
+
+module _ (x : Call) where
+  pub no-depth : x .depth ≡ 0 → whole x ≡ bad
+  no-depth z = lost _ (fill-zero (filler x) (x .depth) _ z)
+
+  pub no-byte : length (x .p) ≤ x .at → whole x ≡ bad
+  no-byte h = lost _ (rw (drop-of-length-le (x .p) h) (fill-empty (filler x) (x .depth)))
+
+  module _ (d : 0 < x .depth) (h : x .at < length (x .p)) where
+    in-hole : x .at ≡ x .hole → fillItem (filler x) (x .depth) (drop (x .at) (x .p)) ≡ after (skipItem (drop (x .at) (x .p))) (λ _. instead (fillItem (plain (x .line) (x .others)) (x .depth - 1) (drop (x .from) (x .q))))
+    unfolding replacing
+    in-hole e = fill-hole (filler x) (x .depth) _ d (length-drop (x .at) (x .p) ∙ rw e)
+
+    pub hole-open : x .at ≡ x .hole → length (x .p) < endOf (x .p) (skipItem (drop (x .at) (x .p))) → whole x ≡ bad
+    hole-open e l = lost _ (in-hole e ∙ rw (missing (x .p) (x .at) skip-tail l))
+
+    module _ (e : x .at ≡ x .hole) (k : endOf (x .p) (skipItem (drop (x .at) (x .p))) ≤ length (x .p)) {r : Ends} (l : Landed (matching (fillItem (plain (x .line) (x .others)) (x .depth - 1))) (x .q) (x .t) (x .from) (x .pos) r) where
+      filled : fillItem (filler x) (x .depth) (drop (x .at) (x .p)) ≡ instead (fillItem (plain (x .line) (x .others)) (x .depth - 1) (drop (x .from) (x .q))) (drop (endOf (x .p) (skipItem (drop (x .at) (x .p)))) (x .p))
+      filled = in-hole e ∙ ap (λ y. after y (λ _. instead (fillItem (plain (x .line) (x .others)) (x .depth - 1) (drop (x .from) (x .q))))) (there (x .p) (x .at) skip-tail k .1)
+
+      pub hole-other : length (x .t) < r .pos → whole x ≡ bad
+      hole-other o = go l
+        where
+          go : Landed (matching (fillItem (plain (x .line) (x .others)) (x .depth - 1))) (x .q) (x .t) (x .from) (x .pos) r → whole x ≡ bad
+          go (missed m n i) = rw filled (instead-lost _ _ _ m)
+          go (landed a n i j) = absurd (omega arith)
+
+      pub hole-same : r .pos ≤ length (x .t) → whole x ≡ got (drop (r .pos) (x .t)) (drop (endOf (x .p) (skipItem (drop (x .at) (x .p)))) (x .p))
+      hole-same o = go l
+        where
+          go : Landed (matching (fillItem (plain (x .line) (x .others)) (x .depth - 1))) (x .q) (x .t) (x .from) (x .pos) r → whole x ≡ got (drop (r .pos) (x .t)) (drop (endOf (x .p) (skipItem (drop (x .at) (x .p)))) (x .p))
+          go (missed m n i) = absurd (omega arith)
+          go (landed a n i j) = rw filled (instead-got _ _ _ a)
+
+    module _ (n : x .at ≡ x .hole → ⊥) where
+      apart : length (drop (x .at) (x .p)) ≡ filler x .hole → ⊥
+      unfolding replacing
+      apart e = n (omega (arith, length-drop (x .at) (x .p)))
+
+      pub at-variable : {index : ℕ} → index ≡ endOf (x .p) (strip (40 ∷ 118 ∷ 32 ∷ []) (drop (x .at) (x .p))) → index ≤ length (x .p) → whole x ≡ matches (indexed (entryOf (x .line) (x .starts)) (drop index (x .p))) (drop (x .pos) (x .t))
+      unfolding replacing
+      at-variable i l = rw (fill-variable (filler x) (drop (x .at) (x .p)) apart (x .depth) d (there (x .p) (x .at) (strip-tail (40 ∷ 118 ∷ 32 ∷ [])) (rw (← i) l) .1), i)
+
+      module _ (v : length (x .p) < endOf (x .p) (strip (40 ∷ 118 ∷ 32 ∷ []) (drop (x .at) (x .p)))) where
+        pub at-other : (getD (x .p) (x .at) 0 ≡ 40 → ⊥) → whole x ≡ bad
+        at-other o = lost _ (fill-other (filler x) (drop (x .at) (x .p)) apart (x .depth) d (missing (x .p) (x .at) (strip-tail (40 ∷ 118 ∷ 32 ∷ [])) v) (byte-other 40 (x .p) (x .at) h o))
+
+        module _ (b : getD (x .p) (x .at) 0 ≡ 40) where
+          bracket : whole x ≡ matches (front (40 ∷ []) (inside (fillItem (filler x) (x .depth - 1)) (drop (x .at + 1) (x .p)))) (drop (x .pos) (x .t))
+          bracket = ap (λ y. matches y (drop (x .pos) (x .t))) (fill-bracket (filler x) (drop (x .at) (x .p)) apart (x .depth) d (missing (x .p) (x .at) (strip-tail (40 ∷ 118 ∷ 32 ∷ [])) v) (byte-here 40 (x .p) (x .at) h b))
+
+          pub no-other : length (x .t) ≤ x .pos → whole x ≡ bad
+          no-other o = bracket ∙ never-front _ _ _ (byte-none 40 (x .t) (x .pos) o)
+
+          pub other-byte : x .pos < length (x .t) → (getD (x .t) (x .pos) 0 ≡ 40 → ⊥) → whole x ≡ bad
+          other-byte o c = bracket ∙ never-front _ _ _ (byte-other 40 (x .t) (x .pos) o c)
+
+          pub enters : x .pos < length (x .t) → getD (x .t) (x .pos) 0 ≡ 40 → Loop x (x .at + 1) (x .pos + 1)
+          enters o c = going-from (fillItem (filler x) (x .depth - 1)) (x .p) (x .t) (x .at + 1) (x .pos) bracket o c
