@@ -54,12 +54,11 @@ module _ (entry : ℕ → List ℕ) (p : List ℕ) (at : ℕ) where
   closed n rest e r c (gives {rest = left} k) = index (rw (r, c) (ap (got (entry n)) (sym (end-drop p at left (end-trans e k))))) (omega arith)
 
   numbered : {x : Parsed ℕ} → readNumber (drop at p) ≡ x → Gives (λ _ rest. End (drop at p) rest) x → Indexed entry p at (readOr 0 (λ n. n) x) (endOf p (strip (41 ∷ []) (drop (endOf p x) p)))
-  unfolding indexed readIndex endOf readOr strip
+  unfolding indexed readIndex endOf strip
   numbered r nothing = rw (drop-of-length-le p {i = length p + 1} (omega arith)) (without (rw r) (omega arith))
   numbered r (gives {a = n} {rest} e) = rw (end-drop p at rest e) (closed n rest e r refl (strip-tail (41 ∷ []) .tail rest))
 
   pub find-index : {n : NumberAt} {end : ℕ} → n ≡ numberAt p (readNumber (drop at p)) → end ≡ endOf p (strip (41 ∷ []) (drop (n .end) p)) → Indexed entry p at (n .value) end
-  unfolding numberAt
   find-index e f = rw (f, e) (numbered refl (sound-tail number-sound number-plain .tail (drop at p)))
 
 module _ {entry : ℕ → List ℕ} {p : List ℕ} {at v end : ℕ} (t : List ℕ) (pos : ℕ) where
