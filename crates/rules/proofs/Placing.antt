@@ -28,14 +28,14 @@ pub record Stands (p : List ℕ) (at : ℕ) (bs : List ℕ) : Type 0 where
   pub bytes-there : drop at p ≡ bs
 
 -- A walk from a place where it succeeds, and where it fails.
-walk-stands : {A : Type 0} (p : List ℕ) (at : ℕ) {read : Reader A} {a : A} {bs rest : List ℕ} → Tail read → Stands p at bs → read bs ≡ got a rest → Stands p (endOf p (read (drop at p))) rest
+pub walk-stands : {A : Type 0} (p : List ℕ) (at : ℕ) {read : Reader A} {a : A} {bs rest : List ℕ} → Tail read → Stands p at bs → read bs ≡ got a rest → Stands p (endOf p (read (drop at p))) rest
 walk-stands p at {read} t s e = let w = landed p at t (ap read (s .bytes-there) ∙ e) in record { within = w .0; bytes-there = w .1 }
 
-walk-past : {A : Type 0} (p : List ℕ) (at : ℕ) (read : Reader A) {bs : List ℕ} → Stands p at bs → read bs ≡ bad → endOf p (read (drop at p)) ≡ length p + 1
+pub walk-past : {A : Type 0} (p : List ℕ) (at : ℕ) (read : Reader A) {bs : List ℕ} → Stands p at bs → read bs ≡ bad → endOf p (read (drop at p)) ≡ length p + 1
 unfolding endOf
 walk-past p at read s e = rw (s .bytes-there, e)
 
-none-past : {A : Type 0} (p : List ℕ) (read : Reader A) → read [] ≡ bad → endOf p (read (drop (length p + 1) p)) ≡ length p + 1
+pub none-past : {A : Type 0} (p : List ℕ) (read : Reader A) → read [] ≡ bad → endOf p (read (drop (length p + 1) p)) ≡ length p + 1
 unfolding endOf
 none-past p read e = rw (drop-of-length-le p {i = length p + 1} (omega arith), e)
 
