@@ -2,3 +2,4 @@ pub mod Filling
 pub mod Walk
 pub mod Answers
 pub mod Expected
+pub mod Sameness

@@ -45,7 +45,7 @@ expect-differ-requires : (t : ℕ) → expect-lts.Need-differ-requires (callees 
 expect-differ-requires t c κs = tt
 
 expect-returns : (t : ℕ) → expect-lts.Need-returns (callees t) (expect-at t) expect.Post expect-Inv-loop expect-μ-loop
-expect-returns t c = 
+expect-returns t c =
     let a = c .before .before .before .before .before .before .before .before .args in
     let x : Call = record { p = now (a .p); at = a .at; depth = a .depth; line = now (a .line); starts = now (a .starts); hole = a .hole; q = now (a .q); from = a .from; others = now (a .others); t = now (a .t); pos = a .pos } in
     ends-bad (x .p) (x .t) (c .differ .ensures) (no-depth x (omega arith))
@@ -54,7 +54,7 @@ expect-differ-requires-2 : (t : ℕ) → expect-lts.Need-differ-requires-2 (call
 expect-differ-requires-2 t c κs = tt
 
 expect-returns-2 : (t : ℕ) → expect-lts.Need-returns-2 (callees t) (expect-at t) expect.Post expect-Inv-loop expect-μ-loop
-expect-returns-2 t c = 
+expect-returns-2 t c =
     let a = c .before .before .before .before .before .before .before .before .before .args in
     let x : Call = record { p = now (a .p); at = a .at; depth = a .depth; line = now (a .line); starts = now (a .starts); hole = a .hole; q = now (a .q); from = a .from; others = now (a .others); t = now (a .t); pos = a .pos } in
     ends-bad (x .p) (x .t) (c .differ2 .ensures) (no-byte x (omega arith))
@@ -66,7 +66,7 @@ expect-differ-requires-3 : (t : ℕ) → expect-lts.Need-differ-requires-3 (call
 expect-differ-requires-3 t c κs = tt
 
 expect-returns-3 : (t : ℕ) → expect-lts.Need-returns-3 (callees t) (expect-at t) expect.Post expect-Inv-loop expect-μ-loop
-expect-returns-3 t c = 
+expect-returns-3 t c =
     let a = c .before .before .before .before .before .before .before .before .before .before .before .before .args in
     let x : Call = record { p = now (a .p); at = a .at; depth = a .depth; line = now (a .line); starts = now (a .starts); hole = a .hole; q = now (a .q); from = a .from; others = now (a .others); t = now (a .t); pos = a .pos } in
     ends-bad (x .p) (x .t) (c .differ3 .ensures) (hole-open x (omega arith) (omega arith) (c .before .before .before .if3 .taken) (omega (arith, c .before .before .skip .ensures)))
@@ -90,7 +90,7 @@ expect-differ-requires-4 : (t : ℕ) → expect-lts.Need-differ-requires-4 (call
 expect-differ-requires-4 t c κs = tt
 
 expect-returns-4 : (t : ℕ) → expect-lts.Need-returns-4 (callees t) (expect-at t) expect.Post expect-Inv-loop expect-μ-loop
-expect-returns-4 t c = 
+expect-returns-4 t c =
     let a = c .before .before .before .before .before .before .before .before .before .before .before .before .before .before .before .args in
     let x : Call = record { p = now (a .p); at = a .at; depth = a .depth; line = now (a .line); starts = now (a .starts); hole = a .hole; q = now (a .q); from = a .from; others = now (a .others); t = now (a .t); pos = a .pos } in
     let k = c .before .before .before .before .before .skip .ensures in
@@ -98,7 +98,7 @@ expect-returns-4 t c =
     ends-bad (x .p) (x .t) (c .differ4 .ensures) (hole-other x (omega arith) (omega arith) (c .before .before .before .before .before .before .if3 .taken) (omega (arith, k)) r (omega arith))
 
 expect-returns-5 : (t : ℕ) → expect-lts.Need-returns-5 (callees t) (expect-at t) expect.Post expect-Inv-loop expect-μ-loop
-expect-returns-5 t c = 
+expect-returns-5 t c =
     let a = c .before .before .before .before .before .before .before .before .before .before .before .before .before .before .args in
     let x : Call = record { p = now (a .p); at = a .at; depth = a .depth; line = now (a .line); starts = now (a .starts); hole = a .hole; q = now (a .q); from = a .from; others = now (a .others); t = now (a .t); pos = a .pos } in
     let k = c .before .before .before .before .skip .ensures in
@@ -115,7 +115,7 @@ expect-expect-entry-requires : (t : ℕ) → expect-lts.Need-expect-entry-requir
 expect-expect-entry-requires t c κs = tt
 
 expect-returns-6 : (t : ℕ) → expect-lts.Need-returns-6 (callees t) (expect-at t) expect.Post expect-Inv-loop expect-μ-loop
-expect-returns-6 t c = 
+expect-returns-6 t c =
     let a = c .before .before .before .before .before .before .before .before .before .before .before .before .before .args in
     let x : Call = record { p = now (a .p); at = a .at; depth = a .depth; line = now (a .line); starts = now (a .starts); hole = a .hole; q = now (a .q); from = a .from; others = now (a .others); t = now (a .t); pos = a .pos } in
     c .expect-entry .ensures ∙ rw (at-variable x (omega arith) (omega arith) (c .before .before .before .before .if3 .left) (c .before .before .word .ensures) (omega arith))
@@ -127,7 +127,7 @@ expect-differ-requires-5 : (t : ℕ) → expect-lts.Need-differ-requires-5 (call
 expect-differ-requires-5 t c κs = tt
 
 expect-returns-7 : (t : ℕ) → expect-lts.Need-returns-7 (callees t) (expect-at t) expect.Post expect-Inv-loop expect-μ-loop
-expect-returns-7 t c = 
+expect-returns-7 t c =
     let a = c .before .before .before .before .before .before .before .before .before .before .before .before .before .before .before .args in
     let x : Call = record { p = now (a .p); at = a .at; depth = a .depth; line = now (a .line); starts = now (a .starts); hole = a .hole; q = now (a .q); from = a .from; others = now (a .others); t = now (a .t); pos = a .pos } in
     ends-bad (x .p) (x .t) (c .differ5 .ensures) (at-other x (omega arith) (omega arith) (c .before .before .before .before .before .before .if3 .left) (omega (arith, c .before .before .before .before .word .ensures)) (omega arith))
@@ -136,7 +136,7 @@ expect-differ-requires-6 : (t : ℕ) → expect-lts.Need-differ-requires-6 (call
 expect-differ-requires-6 t c κs = tt
 
 expect-returns-8 : (t : ℕ) → expect-lts.Need-returns-8 (callees t) (expect-at t) expect.Post expect-Inv-loop expect-μ-loop
-expect-returns-8 t c = 
+expect-returns-8 t c =
     let a = c .before .before .before .before .before .before .before .before .before .before .before .before .before .before .before .before .args in
     let x : Call = record { p = now (a .p); at = a .at; depth = a .depth; line = now (a .line); starts = now (a .starts); hole = a .hole; q = now (a .q); from = a .from; others = now (a .others); t = now (a .t); pos = a .pos } in
     ends-bad (x .p) (x .t) (c .differ6 .ensures) (no-other x (omega arith) (omega arith) (c .before .before .before .before .before .before .before .if3 .left) (omega (arith, c .before .before .before .before .before .word .ensures)) (omega arith) (omega arith))
@@ -148,7 +148,7 @@ expect-differ-requires-7 : (t : ℕ) → expect-lts.Need-differ-requires-7 (call
 expect-differ-requires-7 t c κs = tt
 
 expect-returns-9 : (t : ℕ) → expect-lts.Need-returns-9 (callees t) (expect-at t) expect.Post expect-Inv-loop expect-μ-loop
-expect-returns-9 t c = 
+expect-returns-9 t c =
     let a = c .before .before .before .before .before .before .before .before .before .before .before .before .before .before .before .before .before .before .args in
     let x : Call = record { p = now (a .p); at = a .at; depth = a .depth; line = now (a .line); starts = now (a .starts); hole = a .hole; q = now (a .q); from = a .from; others = now (a .others); t = now (a .t); pos = a .pos } in
     ends-bad (x .p) (x .t) (c .differ7 .ensures) (other-byte x (omega arith) (omega arith) (c .before .before .before .before .before .before .before .before .before .if3 .left) (omega (arith, c .before .before .before .before .before .before .before .word .ensures)) (omega arith) (omega arith) (omega arith))
@@ -160,7 +160,7 @@ expect-add-j : (t : ℕ) → expect-lts.Need-add-j (callees t) (expect-at t) exp
 expect-add-j t c = omega arith
 
 expect-loop-holds : (t : ℕ) → expect-lts.Need-loop-holds (callees t) (expect-at t) expect.Post expect-Inv-loop expect-μ-loop
-expect-loop-holds t c = 
+expect-loop-holds t c =
     let a = c .before .before .before .before .before .before .before .before .before .before .before .before .before .before .before .before .before .args in
     let x : Call = record { p = now (a .p); at = a .at; depth = a .depth; line = now (a .line); starts = now (a .starts); hole = a .hole; q = now (a .q); from = a .from; others = now (a .others); t = now (a .t); pos = a .pos } in
     ((omega arith), (omega arith), (omega arith), enters x (omega arith) (omega arith) (c .before .before .before .before .before .before .before .before .if3 .left) (omega (arith, c .before .before .before .before .before .before .word .ensures)) (omega arith) (omega arith) (omega arith))
@@ -178,7 +178,7 @@ expect-differ-requires-8 : (t : ℕ) → expect-lts.Need-differ-requires-8 (call
 expect-differ-requires-8 t c κs = tt
 
 expect-returns-10 : (t : ℕ) → expect-lts.Need-returns-10 (callees t) (expect-at t) expect.Post expect-Inv-loop expect-μ-loop
-expect-returns-10 t c = 
+expect-returns-10 t c =
     let a = c .before .before .before .before .before .before .before .before .before .before .before .before .before .before .before .before .before .before .before .before .before .before .before .before .args in
     let x : Call = record { p = now (a .p); at = a .at; depth = a .depth; line = now (a .line); starts = now (a .starts); hole = a .hole; q = now (a .q); from = a .from; others = now (a .others); t = now (a .t); pos = a .pos } in
     let l = c .before .before .before .before .before .before .loop in
@@ -186,7 +186,7 @@ expect-returns-10 t c =
     ends-bad (x .p) (x .t) (c .differ8 .ensures) (never-part (x .p) (x .t) (l .i) (l .j) (l .inv .3) (omega arith) (omega arith) r (omega arith))
 
 expect-loop-less : (t : ℕ) → expect-lts.Need-loop-less (callees t) (expect-at t) expect.Post expect-Inv-loop expect-μ-loop
-expect-loop-less t c = 
+expect-loop-less t c =
     let a = c .before .before .before .before .before .before .before .before .before .before .before .before .before .before .before .before .before .before .before .before .before .before .before .args in
     let x : Call = record { p = now (a .p); at = a .at; depth = a .depth; line = now (a .line); starts = now (a .starts); hole = a .hole; q = now (a .q); from = a .from; others = now (a .others); t = now (a .t); pos = a .pos } in
     let l = c .before .before .before .before .before .loop in
@@ -194,7 +194,7 @@ expect-loop-less t c =
     omega (arith, further r (omega arith))
 
 expect-loop-again : (t : ℕ) → expect-lts.Need-loop-again (callees t) (expect-at t) expect.Post expect-Inv-loop expect-μ-loop
-expect-loop-again t c = 
+expect-loop-again t c =
     let a = c .before .before .before .before .before .before .before .before .before .before .before .before .before .before .before .before .before .before .before .before .before .before .before .args in
     let x : Call = record { p = now (a .p); at = a .at; depth = a .depth; line = now (a .line); starts = now (a .starts); hole = a .hole; q = now (a .q); from = a .from; others = now (a .others); t = now (a .t); pos = a .pos } in
     let l = c .before .before .before .before .before .loop in
@@ -205,7 +205,7 @@ expect-differ-requires-9 : (t : ℕ) → expect-lts.Need-differ-requires-9 (call
 expect-differ-requires-9 t c κs = tt
 
 expect-returns-11 : (t : ℕ) → expect-lts.Need-returns-11 (callees t) (expect-at t) expect.Post expect-Inv-loop expect-μ-loop
-expect-returns-11 t c = 
+expect-returns-11 t c =
     let a = c .before .before .before .before .before .before .before .before .before .before .before .before .before .before .before .before .before .before .before .before .before .before .before .args in
     let x : Call = record { p = now (a .p); at = a .at; depth = a .depth; line = now (a .line); starts = now (a .starts); hole = a .hole; q = now (a .q); from = a .from; others = now (a .others); t = now (a .t); pos = a .pos } in
     let l = c .before .before .before .before .before .loop in
@@ -218,7 +218,7 @@ expect-differ-requires-10 : (t : ℕ) → expect-lts.Need-differ-requires-10 (ca
 expect-differ-requires-10 t c κs = tt
 
 expect-returns-12 : (t : ℕ) → expect-lts.Need-returns-12 (callees t) (expect-at t) expect.Post expect-Inv-loop expect-μ-loop
-expect-returns-12 t c = 
+expect-returns-12 t c =
     let a = c .before .before .before .before .before .before .before .before .before .before .before .before .before .before .before .before .before .before .before .before .before .before .before .before .before .args in
     let x : Call = record { p = now (a .p); at = a .at; depth = a .depth; line = now (a .line); starts = now (a .starts); hole = a .hole; q = now (a .q); from = a .from; others = now (a .others); t = now (a .t); pos = a .pos } in
     let l = c .before .before .before .before .before .before .before .loop in
@@ -231,7 +231,7 @@ expect-add-j-2 : (t : ℕ) → expect-lts.Need-add-j-2 (callees t) (expect-at t)
 expect-add-j-2 t c = omega arith
 
 expect-returns-13 : (t : ℕ) → expect-lts.Need-returns-13 (callees t) (expect-at t) expect.Post expect-Inv-loop expect-μ-loop
-expect-returns-13 t c = 
+expect-returns-13 t c =
     let a = c .before .before .before .before .before .before .before .before .before .before .before .before .before .before .before .before .before .before .before .before .before .before .before .before .before .args in
     let x : Call = record { p = now (a .p); at = a .at; depth = a .depth; line = now (a .line); starts = now (a .starts); hole = a .hole; q = now (a .q); from = a .from; others = now (a .others); t = now (a .t); pos = a .pos } in
     let l = c .before .before .before .before .before .before .before .loop in
@@ -241,7 +241,7 @@ expect-loop-less-2 : (t : ℕ) → expect-lts.Need-loop-less-2 (callees t) (expe
 expect-loop-less-2 t c = omega arith
 
 expect-loop-again-2 : (t : ℕ) → expect-lts.Need-loop-again-2 (callees t) (expect-at t) expect.Post expect-Inv-loop expect-μ-loop
-expect-loop-again-2 t c = 
+expect-loop-again-2 t c =
     let a = c .before .before .before .before .before .before .before .before .before .before .before .before .before .before .before .before .before .before .before .before .before .before .before .before .before .args in
     let x : Call = record { p = now (a .p); at = a .at; depth = a .depth; line = now (a .line); starts = now (a .starts); hole = a .hole; q = now (a .q); from = a .from; others = now (a .others); t = now (a .t); pos = a .pos } in
     let l = c .before .before .before .before .before .before .before .loop in
@@ -251,7 +251,7 @@ expect-differ-requires-11 : (t : ℕ) → expect-lts.Need-differ-requires-11 (ca
 expect-differ-requires-11 t c κs = tt
 
 expect-returns-14 : (t : ℕ) → expect-lts.Need-returns-14 (callees t) (expect-at t) expect.Post expect-Inv-loop expect-μ-loop
-expect-returns-14 t c = 
+expect-returns-14 t c =
     let a = c .before .before .before .before .before .before .before .before .before .before .before .before .before .before .before .before .before .before .before .before .args in
     let x : Call = record { p = now (a .p); at = a .at; depth = a .depth; line = now (a .line); starts = now (a .starts); hole = a .hole; q = now (a .q); from = a .from; others = now (a .others); t = now (a .t); pos = a .pos } in
     let l = c .before .before .loop in
