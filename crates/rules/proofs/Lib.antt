@@ -5,3 +5,4 @@ pub mod Targets
 pub mod Walk
 pub mod Answers
 pub mod Expected
+pub mod Sameness

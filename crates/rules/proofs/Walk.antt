@@ -73,10 +73,10 @@ pub record Less (bs rest : List ℕ) : Type 0 where
 pub record Shrinks {A : Type 0} (read : Reader A) : Type 0 where
   pub shrinks : (bs : List ℕ) → Gives (λ _ rest. Less bs rest) (read bs)
 
-less-cons : (b : ℕ) {bs rest : List ℕ} → End bs rest → Less (b ∷ bs) rest
+pub less-cons : (b : ℕ) {bs rest : List ℕ} → End bs rest → Less (b ∷ bs) rest
 less-cons b e = record { tail = end-cons b e; less = omega (arith, e .within) }
 
-less-end : {bs mid rest : List ℕ} → Less bs mid → End mid rest → Less bs rest
+pub less-end : {bs mid rest : List ℕ} → Less bs mid → End mid rest → Less bs rest
 less-end l e = record { tail = end-trans (l .tail) e; less = omega (arith, l .less, e .within) }
 
 pub shrinks-tail : {A : Type 0} {read : Reader A} → Shrinks read → Tail read
@@ -91,7 +91,7 @@ pub skip-shrinks : Shrinks skipItem
 unfolding skipItem
 skip-shrinks = record { shrinks = first-shrinks 40 (closing-tail 0) }
 
-index-tail : (entry : ℕ → List ℕ) → Tail (indexed entry)
+pub index-tail : (entry : ℕ → List ℕ) → Tail (indexed entry)
 unfolding indexed readIndex
 index-tail entry = record { tail = λ bs. bind (bind (sound-tail number-sound number-plain .tail bs) (λ n mid p. bind (strip-tail (41 ∷ []) .tail mid) (λ _ rest q. gives (end-trans p q)))) (λ n rest e. gives e) }
 
