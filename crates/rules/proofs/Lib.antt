@@ -6,3 +6,4 @@ pub mod Walk
 pub mod Answers
 pub mod Expected
 pub mod Sameness
+pub mod Claiming

@@ -1,3 +1,4 @@
 pub mod Uses
 pub mod Filled
 pub mod Shapes
+pub mod Claims

@@ -1,0 +1,34 @@
+-- Check 11 in bytes: "The claim, all of it filled, is the new literal if any, A's other literals, then B's other literals, in order."
+use Prim.Native.Nat.{ℕ, zero, suc, _+_}
+use mathlib.Core.Bool.{Bool, true, false}
+use mathlib.Core.List.{List, []}
+use lib.Dec.{eqb}
+use lib.ListN.{length, drop}
+use Rattle.reader.specs.Words.{bytes}
+use Rattle.rules.specs.Filled.{fillItem, replacing, matches, endsOf}
+use Rattle.rules.specs.Shapes.{stripAt, skipAt}
+
+-- A filled literal is at most so many brackets deep: the literal, its atom, its arguments, and 16 terms.
+abbrev pub literalDepth : ℕ
+literalDepth = 19
+
+-- The literal at `at` of p, filled by a list of the line, stands in the line: the place past it.
+unfoldable pub literalAt : List ℕ → ℕ → List ℕ → List ℕ → ℕ → ℕ
+literalAt p at line starts pos =
+    endsOf p line (matches (fillItem (replacing line starts 0 [] 0 starts) literalDepth (drop at p)) (drop pos line)) .pos
+
+-- The same after a space, unless the literal is dropped.
+unfoldable pub keptAt : List ℕ → ℕ → Bool → List ℕ → List ℕ → ℕ → ℕ
+keptAt p at true line starts pos = pos
+keptAt p at false line starts pos = literalAt p at line starts (stripAt line (bytes " ") pos)
+
+-- The k literals from literal n on, which begins after a space at `at`, without the dropped one, each after a space.
+unfoldable pub othersFrom : List ℕ → ℕ → List ℕ → List ℕ → ℕ → ℕ → ℕ → ℕ → ℕ
+othersFrom p dropped line starts zero n at pos = pos
+othersFrom p dropped line starts (suc k) n at pos =
+    let begin = stripAt p (bytes " ") at in
+    othersFrom p dropped line starts k (n + 1) (skipAt p begin) (keptAt p begin (eqb n dropped) line starts pos)
+
+-- All literals of a clause but one.
+unfoldable pub othersAt : List ℕ → ℕ → ℕ → List ℕ → List ℕ → ℕ → ℕ
+othersAt p count dropped line starts pos = othersFrom p dropped line starts count 0 (stripAt p (bytes "(or") 0) pos
