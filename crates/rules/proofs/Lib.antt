@@ -7,3 +7,4 @@ pub mod Answers
 pub mod Expected
 pub mod Sameness
 pub mod Claiming
+pub mod Claimed

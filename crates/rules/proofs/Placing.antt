@@ -52,6 +52,10 @@ module _ (p : List ℕ) where
   unfolding stripAt strip
   past-strip b w = none-past p (strip (b ∷ w)) refl
 
+  pub skip-stands : {at : ℕ} {bs rest : List ℕ} → Stands p at bs → skipItem bs ≡ got tt rest → Stands p (skipAt p at) rest
+  unfolding skipAt
+  skip-stands {at} s e = walk-stands p at skip-tail s e
+
   -- The item after a term, and after arguments.
   next-of : {at : ℕ} {bs rest : List ℕ} → Stands p at bs → skipItem bs ≡ got tt (word " " rest) → Stands p (nextAt p at) rest
   unfolding nextAt skipAt strip
