@@ -24,7 +24,7 @@ use Rattle.reader.proofs.Nesting.{skip-literal}
 use Rattle.reader.proofs.Heads.{strip-same}
 use Rattle.rules.specs.Filled.{fillItem, replacing, matches, endsOf}
 use Rattle.rules.specs.Shapes.{stripAt, skipAt}
-use Rattle.rules.specs.Claims.{literalAt, keptAt, othersFrom, othersAt}
+use Rattle.rules.specs.Claims.{filledAt, keptAt, othersFrom, othersAt}
 use Rattle.rules.proofs.Filling.{after-it, fill-literal}
 use Rattle.rules.proofs.Placing.{Stands, strip-stands, skip-stands}
 
@@ -58,8 +58,8 @@ Entries line starts σ w = (v : ℕ) → v < w → entryOf line starts v ≡ put
 
 module _ (p line starts : List ℕ) (σ : Substitution) (w : ℕ) (entry : Entries line starts σ w) where
   pub literal-claimed : {at : ℕ} (g : Sign) (x : Atom) (rest : List ℕ) (pos : ℕ) → Stands p at (putLiteral (lit g x) rest) → T (formedAtom 16 x) → termsWidth (termsOf x) ≤ w →
-      literalAt p at line starts pos ≡ stripAt line (putLiteral (fillLiteral σ (lit g x)) []) pos
-  unfolding literalAt stripAt replacing
+      filledAt p at line starts pos ≡ stripAt line (putLiteral (fillLiteral σ (lit g x)) []) pos
+  unfolding filledAt stripAt replacing
   literal-claimed g x rest pos s f h =
       ap (λ q. endsOf p line (matches q (drop pos line)) .pos)
       (ap (fillItem (replacing line starts 0 [] 0 starts) 19) (s .bytes-there) ∙ fill-literal (replacing line starts 0 [] 0 starts) σ w 16 entry g x f h rest (after-it (omega arith)))

@@ -1,5 +1,5 @@
 -- Check 11 in bytes: "The claim, all of it filled, is the new literal if any, A's other literals, then B's other literals, in order."
-use Prim.Native.Nat.{ℕ, zero, suc, _+_}
+use Prim.Native.Nat.{ℕ, zero, suc, _+_, _-_}
 use mathlib.Core.Bool.{Bool, true, false}
 use mathlib.Core.List.{List, []}
 use lib.Dec.{eqb}
@@ -8,19 +8,29 @@ use Rattle.reader.specs.Words.{bytes}
 use Rattle.rules.specs.Filled.{fillItem, replacing, matches, endsOf}
 use Rattle.rules.specs.Shapes.{stripAt, skipAt}
 
--- A filled literal is at most so many brackets deep: the literal, its atom, its arguments, and 16 terms.
-abbrev pub literalDepth : ℕ
-literalDepth = 19
+-- A literal is at most so many brackets deep: the literal, its atom, its arguments, and 16 terms.
+abbrev pub itemDepth : ℕ
+itemDepth = 19
 
--- The literal at `at` of p, filled by a list of the line, stands in the line: the place past it.
-unfoldable pub literalAt : List ℕ → ℕ → List ℕ → List ℕ → ℕ → ℕ
-literalAt p at line starts pos =
-    endsOf p line (matches (fillItem (replacing line starts 0 [] 0 starts) literalDepth (drop at p)) (drop pos line)) .pos
+-- The item at `at` of p, filled by a list of the line, stands in the line: the place past it.
+unfoldable pub filledAt : List ℕ → ℕ → List ℕ → List ℕ → ℕ → ℕ
+filledAt p at line starts pos =
+    endsOf p line (matches (fillItem (replacing line starts 0 [] 0 starts) itemDepth (drop at p)) (drop pos line)) .pos
+
+-- After a space, the literal at `at` of p, filled, with the item at `from` of q, filled by another list, in place of the item at `hole`.
+unfoldable pub rewrittenAt : List ℕ → ℕ → ℕ → List ℕ → List ℕ → List ℕ → ℕ → List ℕ → ℕ → ℕ
+rewrittenAt p at hole line starts q from others pos =
+    endsOf p line (matches (fillItem (replacing line starts (length p - hole) q from others) itemDepth (drop at p)) (drop (stripAt line (bytes " ") pos) line)) .pos
+
+-- A new literal of two terms: its head with the space in front, an item of p, a space, an item of q, and two closing brackets.
+unfoldable pub linkedAt : List ℕ → List ℕ → ℕ → List ℕ → List ℕ → List ℕ → ℕ → List ℕ → ℕ → ℕ
+linkedAt head p x line starts q y others pos =
+    stripAt line (bytes "))") (filledAt q y line others (stripAt line (bytes " ") (filledAt p x line starts (stripAt line head pos))))
 
 -- The same after a space, unless the literal is dropped.
 unfoldable pub keptAt : List ℕ → ℕ → Bool → List ℕ → List ℕ → ℕ → ℕ
 keptAt p at true line starts pos = pos
-keptAt p at false line starts pos = literalAt p at line starts (stripAt line (bytes " ") pos)
+keptAt p at false line starts pos = filledAt p at line starts (stripAt line (bytes " ") pos)
 
 -- The k literals from literal n on, which begins after a space at `at`, without the dropped one, each after a space.
 unfoldable pub othersFrom : List ℕ → ℕ → List ℕ → List ℕ → ℕ → ℕ → ℕ → ℕ → ℕ

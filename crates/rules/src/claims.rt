@@ -3,13 +3,13 @@ use crate::compare::expect;
 use reader::access::skip;
 use reader::words::word;
 ghost use mathlib.Core.Path.{_≡_};
-ghost use Rattle.rules.specs.Claims.{literalAt, othersAt, keptAt};
+ghost use Rattle.rules.specs.Claims.{filledAt, rewrittenAt, keptAt, othersAt, linkedAt};
 
 const DEPTH: usize = 19;
 
-// The literal at `at` of p, filled.
-pub fn literal(p: &[u8], at: usize, line: &[u8], starts: &[usize], pos: usize) -> usize
-    ensures { λ r. ⌜ r ≡ literalAt (now (p .entry)) at (now (line .entry)) (now (starts .entry)) pos ⌝ }
+// The item at `at` of p, filled.
+pub fn filled(p: &[u8], at: usize, line: &[u8], starts: &[usize], pos: usize) -> usize
+    ensures { λ r. ⌜ r ≡ filledAt (now (p .entry)) at (now (line .entry)) (now (starts .entry)) pos ⌝ }
 {
     let found = expect(
         p,
@@ -34,7 +34,7 @@ fn kept(p: &[u8], at: usize, drop: bool, line: &[u8], starts: &[usize], pos: usi
     if drop {
         return pos;
     }
-    literal(p, at, line, starts, word(line, pos, b" "))
+    filled(p, at, line, starts, word(line, pos, b" "))
 }
 
 // The first `count` literals of a clause but one, filled, each after a space.
@@ -58,4 +58,53 @@ pub fn others(
         n += 1;
     }
     place
+}
+
+// After a space, the literal at `at` of p, filled, with the item at `from` of q, filled by the other list, in place of the item at `hole`.
+pub fn rewritten(
+    p: &[u8],
+    at: usize,
+    hole: usize,
+    line: &[u8],
+    starts: &[usize],
+    q: &[u8],
+    from: usize,
+    others: &[usize],
+    pos: usize,
+) -> usize
+    ensures { λ r. ⌜ r ≡ rewrittenAt (now (p .entry)) at hole (now (line .entry)) (now (starts .entry)) (now (q .entry)) from (now (others .entry)) pos ⌝ }
+{
+    let found = expect(
+        p,
+        at,
+        DEPTH,
+        line,
+        starts,
+        hole,
+        q,
+        from,
+        others,
+        line,
+        word(line, pos, b" "),
+    );
+    found.pos
+}
+
+// A new literal of two terms: its head with the space in front, the item at x of p, filled, and the item at y of q, filled by the other list.
+pub fn linked(
+    head: &[u8],
+    p: &[u8],
+    x: usize,
+    line: &[u8],
+    starts: &[usize],
+    q: &[u8],
+    y: usize,
+    others: &[usize],
+    pos: usize,
+) -> usize
+    ensures { λ r. ⌜ r ≡ linkedAt (now (head .entry)) (now (p .entry)) x (now (line .entry)) (now (starts .entry)) (now (q .entry)) y (now (others .entry)) pos ⌝ }
+{
+    let left = filled(p, x, line, starts, word(line, pos, head));
+    let right = filled(q, y, line, others, word(line, left, b" "));
+    word(line, right, b"))")
 }

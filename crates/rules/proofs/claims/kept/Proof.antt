@@ -8,7 +8,7 @@ use Rattle.rules.proofs.claims.kept.Tie as tie
 use Rattle.rules.proofs.claims.kept.Reads as reads
 use Rattle.rules.proofs.claims.kept.Lts as lts
 use Rattle.reader.proofs.words.word.Reads as word-reads
-use Rattle.rules.proofs.claims.literal.Reads as literal-reads
+use Rattle.rules.proofs.claims.filled.Reads as filled-reads
 
 -- src/claims.rt:23:9
 returns : tie.Need-returns
@@ -24,8 +24,8 @@ word-requires : tie.Need-word-requires
 word-requires c κs = search needs
 
 -- src/claims.rt:25:5
-literal-requires : tie.Need-literal-requires
-literal-requires c κs = search needs
+filled-requires : tie.Need-filled-requires
+filled-requires c κs = search needs
 
 -- src/claims.rt:19:1
 returns-2 : tie.Need-returns-2
@@ -34,4 +34,4 @@ returns-2 c = let e : c .before .before .before .before .before .before .before 
 
 pub kept-spec : {M : Type 1} → statement M
 kept-spec =
-    tie.close (tie.spec returns slice-aggregate-word word-requires literal-requires returns-2)
+    tie.close (tie.spec returns slice-aggregate-word word-requires filled-requires returns-2)
