@@ -3,3 +3,4 @@ pub mod Walk
 pub mod Answers
 pub mod Expected
 pub mod Sameness
+pub mod Alike
