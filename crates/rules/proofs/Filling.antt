@@ -55,7 +55,7 @@ tree-longer (var n) rest = omega (arith, put-grows (number-plain n) (41 ∷ rest
 tree-longer (node ts) rest = omega (arith, inside-grows ts (41 ∷ rest))
 
 -- What stands in a bracket does not begin as a variable does.
-not-variable : (ts : Trees) → T (opens ts) → (rest : List ℕ) → strip (118 ∷ 32 ∷ []) (putInside ts (41 ∷ rest)) ≡ bad
+pub not-variable : (ts : Trees) → T (opens ts) → (rest : List ℕ) → strip (118 ∷ 32 ∷ []) (putInside ts (41 ∷ rest)) ≡ bad
 unfolding strip putTree
 not-variable end o rest = refl
 not-variable (byte b ts) o rest = rw (other b o)
@@ -129,7 +129,7 @@ module _ (σ : Substitution) where
     tree-terms nil = refl
     tree-terms (cons t ts) = rw (tree-term t, tree-terms ts)
 
-  tree-arguments : (ts : Terms) → fillTree trees (treeArguments ts) ≡ treeArguments (fills σ ts)
+  pub tree-arguments : (ts : Terms) → fillTree trees (treeArguments ts) ≡ treeArguments (fills σ ts)
   unfolding fillTree treeArguments fills
   tree-arguments nil = refl
   tree-arguments (cons t ts) = rw (tree-term t, tree-terms ts)

@@ -8,3 +8,4 @@ pub mod Expected
 pub mod Sameness
 pub mod Claiming
 pub mod Claimed
+pub mod Alike

@@ -55,7 +55,7 @@ unfolding both
 both-gives nothing s = nothing
 both-gives (gives {a = w} {rest} r) s = whole-gives rest r (matched w s)
 
-turned-gives : {Q : List ℕ → List ℕ → Type 0} {x : Parsed (List ℕ)} → Gives Q x → Gives (λ left rest. Q rest left) (turned x)
+pub turned-gives : {Q : List ℕ → List ℕ → Type 0} {x : Parsed (List ℕ)} → Gives Q x → Gives (λ left rest. Q rest left) (turned x)
 unfolding turned
 turned-gives nothing = nothing
 turned-gives (gives q) = gives q
@@ -152,7 +152,7 @@ all x = item x (x .depth) (drop (x .at) (x .p)) (drop (x .pos) (x .q))
 abbrev pub Loop : Call → ℕ → ℕ → Type 0
 Loop x i j = Going (item x (x .depth - 1)) (x .p) (x .q) (all x) i j
 
-abbrev variable : List ℕ
+abbrev pub variable : List ℕ
 variable = 40 ∷ 118 ∷ 32 ∷ []
 
 module _ (x : Call) (d : 0 < x .depth) where

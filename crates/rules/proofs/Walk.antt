@@ -200,6 +200,20 @@ pub further : {item : Pair} {p t : List ℕ} {i j : ℕ} {e : Ends} → Landed i
 further (missed m o k) h = absurd (omega arith)
 further (landed a n o k) h = (n, k)
 
+-- The steps of an inside.
+module _ (item : Reader (List ℕ)) (k b : ℕ) (bs : List ℕ) where
+  pub inside-open : b ≡ 40 → insideUpTo item (suc k) (b ∷ bs) ≡ after (item (b ∷ bs)) (λ w rest. front w (insideUpTo item k rest))
+  unfolding insideUpTo
+  inside-open e = rw e
+
+  pub inside-close : b ≡ 41 → insideUpTo item (suc k) (b ∷ bs) ≡ got (41 ∷ []) bs
+  unfolding insideUpTo
+  inside-close e = rw e
+
+  pub inside-on : (b ≡ 40 → ⊥) → (b ≡ 41 → ⊥) → insideUpTo item (suc k) (b ∷ bs) ≡ front (b ∷ []) (insideUpTo item k bs)
+  unfolding insideUpTo
+  inside-on o c = rw (ne-eqb b 41 c, ne-eqb b 40 o)
+
 -- The steps of two insides.
 module _ (item : Pair) (k b : ℕ) (ps ts : List ℕ) where
   along-open : b ≡ 40 → along item (suc k) (b ∷ ps) ts ≡ after (item (b ∷ ps) ts) (λ left rest. along item k rest left)
