@@ -9,3 +9,4 @@ pub mod Kinds
 pub mod Places
 pub mod Summary
 pub mod Tables
+pub mod LineAt

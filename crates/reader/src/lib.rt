@@ -1,6 +1,7 @@
 // The text form. Its definitions are in specs/, their laws in proofs/.
 pub mod atoms;
 pub mod clauses;
+pub mod forms;
 pub mod kinds;
 pub mod numbers;
 pub mod summaries;
