@@ -68,9 +68,9 @@ module _ (s bs : List ℕ) where
   pub only-link : (x : Link) {e : ℕ} → e ≡ endOf s (skip (linkWord x) bs) → record { end = e; link = x } ≡ mk-link (endOf s (wordOf linkWord (x ∷ []) bs)) (readOr x (λ a. a) (wordOf linkWord (x ∷ []) bs))
   only-link x h = rw h (only mk-link linkWord x s bs)
 
-  pub or-link : (front : List Link) (d x : Link) {f : LinkAt} → f ≡ mk-link (endOf s (wordOf linkWord front bs)) (readOr d (λ a. a) (wordOf linkWord front bs)) → orLink s f (skip (linkWord x) bs) x ≡ mk-link (endOf s (wordOf linkWord (front ++ x ∷ []) bs)) (readOr x (λ a. a) (wordOf linkWord (front ++ x ∷ []) bs))
+  pub or-link : (front : List Link) (d x : Link) {f f' : LinkAt} → f ≡ mk-link (endOf s (wordOf linkWord front bs)) (readOr d (λ a. a) (wordOf linkWord front bs)) → f' ≡ orLink s f (skip (linkWord x) bs) x → f' ≡ mk-link (endOf s (wordOf linkWord (front ++ x ∷ []) bs)) (readOr x (λ a. a) (wordOf linkWord (front ++ x ∷ []) bs))
   unfolding orLink
-  or-link front d x h = rw h (chosen mk-link linkWord front x d s bs)
+  or-link front d x h i = i ∙ rw h (chosen mk-link linkWord front x d s bs)
 
   abbrev mk-arrow : ℕ → Arrow → ArrowAt
   mk-arrow e x = record { end = e; arrow = x }
@@ -78,9 +78,9 @@ module _ (s bs : List ℕ) where
   pub only-arrow : (x : Arrow) {e : ℕ} → e ≡ endOf s (skip (arrowWord x) bs) → record { end = e; arrow = x } ≡ mk-arrow (endOf s (wordOf arrowWord (x ∷ []) bs)) (readOr x (λ a. a) (wordOf arrowWord (x ∷ []) bs))
   only-arrow x h = rw h (only mk-arrow arrowWord x s bs)
 
-  pub or-arrow : (front : List Arrow) (d x : Arrow) {f : ArrowAt} → f ≡ mk-arrow (endOf s (wordOf arrowWord front bs)) (readOr d (λ a. a) (wordOf arrowWord front bs)) → orArrow s f (skip (arrowWord x) bs) x ≡ mk-arrow (endOf s (wordOf arrowWord (front ++ x ∷ []) bs)) (readOr x (λ a. a) (wordOf arrowWord (front ++ x ∷ []) bs))
+  pub or-arrow : (front : List Arrow) (d x : Arrow) {f f' : ArrowAt} → f ≡ mk-arrow (endOf s (wordOf arrowWord front bs)) (readOr d (λ a. a) (wordOf arrowWord front bs)) → f' ≡ orArrow s f (skip (arrowWord x) bs) x → f' ≡ mk-arrow (endOf s (wordOf arrowWord (front ++ x ∷ []) bs)) (readOr x (λ a. a) (wordOf arrowWord (front ++ x ∷ []) bs))
   unfolding orArrow
-  or-arrow front d x h = rw h (chosen mk-arrow arrowWord front x d s bs)
+  or-arrow front d x h i = i ∙ rw h (chosen mk-arrow arrowWord front x d s bs)
 
   abbrev mk-rule : ℕ → Rule → RuleAt
   mk-rule e x = record { end = e; rule = x }
@@ -88,9 +88,9 @@ module _ (s bs : List ℕ) where
   pub only-rule : (x : Rule) {e : ℕ} → e ≡ endOf s (skip (ruleWord x) bs) → record { end = e; rule = x } ≡ mk-rule (endOf s (wordOf ruleWord (x ∷ []) bs)) (readOr x (λ a. a) (wordOf ruleWord (x ∷ []) bs))
   only-rule x h = rw h (only mk-rule ruleWord x s bs)
 
-  pub or-rule : (front : List Rule) (d x : Rule) {f : RuleAt} → f ≡ mk-rule (endOf s (wordOf ruleWord front bs)) (readOr d (λ a. a) (wordOf ruleWord front bs)) → orRule s f (skip (ruleWord x) bs) x ≡ mk-rule (endOf s (wordOf ruleWord (front ++ x ∷ []) bs)) (readOr x (λ a. a) (wordOf ruleWord (front ++ x ∷ []) bs))
+  pub or-rule : (front : List Rule) (d x : Rule) {f f' : RuleAt} → f ≡ mk-rule (endOf s (wordOf ruleWord front bs)) (readOr d (λ a. a) (wordOf ruleWord front bs)) → f' ≡ orRule s f (skip (ruleWord x) bs) x → f' ≡ mk-rule (endOf s (wordOf ruleWord (front ++ x ∷ []) bs)) (readOr x (λ a. a) (wordOf ruleWord (front ++ x ∷ []) bs))
   unfolding orRule
-  or-rule front d x h = rw h (chosen mk-rule ruleWord front x d s bs)
+  or-rule front d x h i = i ∙ rw h (chosen mk-rule ruleWord front x d s bs)
 
 pub sign-first : (s : List ℕ) (at : ℕ) {e : ℕ} → e ≡ endOf s (skip "+" (drop at s)) → e ≤ length s → record { end = e; sign = Positive } ≡ signAt s (readSign (drop at s))
 unfolding readSign

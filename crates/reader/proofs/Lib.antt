@@ -26,3 +26,4 @@ pub mod Loop
 pub mod Choices
 pub mod AtomParts
 pub mod ClauseParts
+pub mod LineParts

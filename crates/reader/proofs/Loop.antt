@@ -33,7 +33,7 @@ after-return : {A : Type 0} (p : Parsed A) → p ≡ after p return
 after-return bad = refl
 after-return (got a rest) = refl
 
-after-after : {A B C : Type 0} (p : Parsed A) (f : A → Reader B) (g : B → Reader C) → after (after p f) g ≡ after p (λ a rest. after (f a rest) g)
+pub after-after : {A B C : Type 0} (p : Parsed A) (f : A → Reader B) (g : B → Reader C) → after (after p f) g ≡ after p (λ a rest. after (f a rest) g)
 after-after bad f g = refl
 after-after (got a rest) f g = refl
 

@@ -11,3 +11,4 @@ pub mod Places
 pub mod Heads
 pub mod Summary
 pub mod Tables
+pub mod LineAt

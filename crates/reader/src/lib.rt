@@ -2,6 +2,7 @@
 pub mod access;
 pub mod atoms;
 pub mod clauses;
+pub mod forms;
 pub mod kinds;
 pub mod numbers;
 pub mod summaries;

@@ -65,7 +65,7 @@ or-arrow-requires-5 c κs = search needs
 -- src/tables.rt:63:1
 returns : tie.Need-returns
 unfolding readArrowWord
-returns c = let a = (c .before .before .before .before .before .before .before .before .before .before .before .before .before .args) in let s = now (a .s) in let bs = drop (a .at) s in (c .or-arrow5) .ensures ∙ or-arrow s bs (Sv ∷ Si ∷ Mv ∷ Mi ∷ St ∷ []) St Mt ((c .before .before .or-arrow4) .ensures ∙ or-arrow s bs (Sv ∷ Si ∷ Mv ∷ Mi ∷ []) Mi St ((c .before .before .before .before .or-arrow3) .ensures ∙ or-arrow s bs (Sv ∷ Si ∷ Mv ∷ []) Mv Mi ((c .before .before .before .before .before .before .or-arrow2) .ensures ∙ or-arrow s bs (Sv ∷ Si ∷ []) Si Mv ((c .before .before .before .before .before .before .before .before .or-arrow) .ensures ∙ or-arrow s bs (Sv ∷ []) Sv Si (only-arrow s bs Sv ((c .before .before .before .before .before .before .before .before .before .before .word) .ensures))))))
+returns c = let a = (c .before .before .before .before .before .before .before .before .before .before .before .before .before .args) in let s = now (a .s) in let bs = drop (a .at) s in or-arrow s bs (Sv ∷ Si ∷ Mv ∷ Mi ∷ St ∷ []) St Mt (or-arrow s bs (Sv ∷ Si ∷ Mv ∷ Mi ∷ []) Mi St (or-arrow s bs (Sv ∷ Si ∷ Mv ∷ []) Mv Mi (or-arrow s bs (Sv ∷ Si ∷ []) Si Mv (or-arrow s bs (Sv ∷ []) Sv Si (only-arrow s bs Sv ((c .before .before .before .before .before .before .before .before .before .before .word) .ensures)) ((c .before .before .before .before .before .before .before .before .or-arrow) .ensures)) ((c .before .before .before .before .before .before .or-arrow2) .ensures)) ((c .before .before .before .before .or-arrow3) .ensures)) ((c .before .before .or-arrow4) .ensures)) ((c .or-arrow5) .ensures)
 
 pub arrow-spec : {M : Type 1} → statement M
 arrow-spec =

@@ -41,7 +41,7 @@ or-link-requires-2 c κs = search needs
 -- src/tables.rt:43:1
 returns : tie.Need-returns
 unfolding readLinkWord
-returns c = let a = (c .before .before .before .before .before .before .before .args) in let s = now (a .s) in let bs = drop (a .at) s in (c .or-link2) .ensures ∙ or-link s bs (Eq ∷ Mem ∷ []) Mem Sub ((c .before .before .or-link) .ensures ∙ or-link s bs (Eq ∷ []) Eq Mem (only-link s bs Eq ((c .before .before .before .before .word) .ensures)))
+returns c = let a = (c .before .before .before .before .before .before .before .args) in let s = now (a .s) in let bs = drop (a .at) s in or-link s bs (Eq ∷ Mem ∷ []) Mem Sub (or-link s bs (Eq ∷ []) Eq Mem (only-link s bs Eq ((c .before .before .before .before .word) .ensures)) ((c .before .before .or-link) .ensures)) ((c .or-link2) .ensures)
 
 pub link-spec : {M : Type 1} → statement M
 link-spec =
