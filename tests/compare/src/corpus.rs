@@ -328,11 +328,11 @@ impl Corpus {
             let least = if number == 1 { 4 } else { 40 };
             want(coverage.refused(number), least, format!("refused {number}"));
         }
-        for kind in 0..KINDS {
+        for (kind, name) in LIMITS.iter().enumerate() {
             for past in [false, true] {
                 let verdicts = self.limits.get(&(kind, past));
                 let texts = verdicts.map_or(0, |verdicts| verdicts.values().sum());
-                want(texts, 1, format!("{}, past {past}", LIMITS[kind]));
+                want(texts, 1, format!("{name}, past {past}"));
             }
         }
         for rule in RULES {
