@@ -1,0 +1,87 @@
+//! `docs/GUIDE.md` quotes the examples as they are, and what it says of mended
+//! texts holds.
+
+use std::fs;
+use std::path::{Path, PathBuf};
+
+use compare::{second_line, shown};
+
+fn root() -> PathBuf {
+    Path::new(env!("CARGO_MANIFEST_DIR")).join("../..")
+}
+
+/// The example's text and expected line.
+fn example(name: &str) -> (String, String) {
+    let path = root().join("examples").join(name);
+    let read = |ending: &str| fs::read_to_string(path.with_extension(ending)).unwrap();
+    (read("flogic"), read("answer").trim_end().to_string())
+}
+
+/// What stands between two marks, and the rest.
+fn between<'a>(text: &'a str, start: &str, end: &str) -> Option<(&'a str, &'a str)> {
+    let (_, text) = text.split_once(start)?;
+    text.split_once(end)
+}
+
+#[test]
+fn texts_are_quoted_as_they_are() {
+    let guide = fs::read_to_string(root().join("docs/GUIDE.md")).unwrap();
+    let mut rest = guide.as_str();
+    let mut quoted = 0;
+    while let Some((name, after)) = between(rest, "`examples/", ".flogic`:\n\n```text\n") {
+        let (text, after) = after.split_once("```").unwrap();
+        let (answer, after) = between(after, "Answer: `", "`").unwrap();
+        // The name begins after the last mark before the block.
+        let name = name.rsplit("`examples/").next().unwrap();
+        assert_eq!((text.into(), answer.into()), example(name), "{name}");
+        quoted += 1;
+        rest = after;
+    }
+    // C1, the rules, the refusals but the first, the paper's proof, the survey.
+    assert_eq!(quoted, 1 + 12 + 10 + 1 + 2);
+}
+
+#[test]
+fn mended_texts_get_the_answer_that_is_named() {
+    let guide = fs::read_to_string(root().join("docs/GUIDE.md")).unwrap();
+    let mut mended = 0;
+    let mut name = "";
+    for paragraph in guide.split("\n\n") {
+        if let Some((found, _)) = between(paragraph, "`examples/", ".flogic`:") {
+            name = found;
+        }
+        let Some(mend) = paragraph.strip_prefix("To mend it, ") else {
+            continue;
+        };
+        let (changes, answer) = mend.split_once(": the answer is `").unwrap();
+        let (text, _) = example(name);
+        let mut lines: Vec<&str> = text.lines().collect();
+        for change in changes.split(" and ") {
+            let (number, line) = between(change, "line ", " as `").unwrap();
+            let number: usize = number.parse().unwrap();
+            lines[number - 1] = line.strip_suffix('`').unwrap();
+        }
+        let text = lines.join("\n") + "\n";
+        let answer = answer.strip_suffix("`.").unwrap();
+        assert_eq!(shown(&second_line(text.as_bytes())), answer, "{name}");
+        mended += 1;
+    }
+    assert_eq!(mended, 10);
+}
+
+#[test]
+fn the_list_of_examples_has_each_with_its_answer() {
+    let list = fs::read_to_string(root().join("examples/README.md")).unwrap();
+    let mut names = Vec::new();
+    for row in list.lines().filter(|row| row.starts_with("| `")) {
+        let cells: Vec<&str> = row.split('|').map(str::trim).collect();
+        let name = cells[1].trim_matches('`');
+        assert_eq!(cells[2], example(name).1, "{name}");
+        names.push(name.to_string());
+    }
+    names.sort();
+    let examples = compare::examples::read_examples(&root().join("examples")).unwrap();
+    let mut found: Vec<String> = examples.into_iter().map(|example| example.name).collect();
+    found.sort();
+    assert_eq!(names, found);
+}
