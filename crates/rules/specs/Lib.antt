@@ -2,3 +2,4 @@ pub mod Uses
 pub mod Filled
 pub mod Shapes
 pub mod Claims
+pub mod Rows

@@ -1,3 +1,4 @@
+pub mod rows;
 pub mod shapes;
 pub mod uses;
 // The rules: checks 7 to 11. Their definitions are in specs/, their laws in proofs/.
