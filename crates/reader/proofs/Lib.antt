@@ -17,3 +17,4 @@ pub mod Table
 pub mod KindTable
 pub mod Places
 pub mod Digits
+pub mod Views

@@ -8,3 +8,4 @@ pub mod State
 pub mod Access
 pub mod Kinds
 pub mod Places
+pub mod View
