@@ -18,3 +18,4 @@ pub mod KindTable
 pub mod Places
 pub mod Digits
 pub mod Views
+pub mod Occurrences

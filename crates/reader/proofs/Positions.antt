@@ -62,7 +62,7 @@ pub record Tail {A : Type 0} (read : Reader A) : Type 0 where
 pub end-refl : (bs : List ℕ) → End bs bs
 end-refl bs = let z : length bs - length bs ≡ 0 = omega arith in record { within = omega arith; dropped = rw z }
 
-end-append : (w rest : List ℕ) → End (w ++ rest) rest
+pub end-append : (w rest : List ℕ) → End (w ++ rest) rest
 end-append w rest = let l : length (w ++ rest) ≡ length w + length rest = length-append w rest in record { within = omega arith; dropped = drop-at w rest (length (w ++ rest) - length rest) (omega arith) }
 
 pub end-trans : {bs mid rest : List ℕ} → End bs mid → End mid rest → End bs rest

@@ -5,7 +5,7 @@ use logic::Link;
 ghost use mathlib.Core.Path.{_≡_};
 ghost use lib.ListN.{drop};
 ghost use Rattle.reader.specs.Places.{endOf};
-ghost use Rattle.reader.specs.Access.{skipItem, passItem, toItem, opening, toArgument, howMany, places, entryOf};
+ghost use Rattle.reader.specs.Access.{skipItem, passItem, toItem, opening, toArgument, howMany, places, entryOf, beginsTerm, toOccurrence};
 ghost use Rattle.reader.specs.View.{kindAt, readKindWord, nextItem, atomAt, viewAt};
 
 // The place past the item that begins at `at`.
@@ -272,4 +272,48 @@ pub fn literal(s: &[u8], at: usize) -> View
         fourth,
         bare,
     }
+}
+
+// Whether a term begins at the place.
+fn term(s: &[u8], at: usize) -> bool
+    ensures { λ r. ⌜ r ≡ beginsTerm (drop at (now (s .entry))) ⌝ }
+{
+    if word(s, at, b"(v ") <= s.len() {
+        return true;
+    }
+    word(s, at, b"(f ") <= s.len()
+}
+
+// The place of term occurrence k in the item that begins at `at`.
+pub fn occurrence(s: &[u8], at: usize, k: usize) -> usize
+    ensures { λ r. ⌜ r ≡ endOf (now (s .entry)) (toOccurrence k (drop at (now (s .entry)))) ⌝ }
+{
+    let mut i = word(s, at, b"(");
+    let mut left = k;
+    let mut level: usize = 0;
+    while i < s.len() {
+        let b = s[i];
+        if b == b'(' {
+            if term(s, i) {
+                if left == 0 {
+                    return i;
+                }
+                left -= 1;
+                level += 1;
+                i += 1;
+            } else {
+                level += 1;
+                i += 1;
+            }
+        } else {
+            i += 1;
+            if b == b')' {
+                if level == 0 {
+                    return s.len() + 1;
+                }
+                level -= 1;
+            }
+        }
+    }
+    s.len() + 1
 }
