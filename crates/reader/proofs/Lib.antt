@@ -27,3 +27,5 @@ pub mod Choices
 pub mod AtomParts
 pub mod ClauseParts
 pub mod LineParts
+pub mod Views
+pub mod Occurrences

@@ -62,7 +62,7 @@ pub record Tail {A : Type 0} (read : Reader A) : Type 0 where
 pub end-refl : (bs : List ℕ) → End bs bs
 end-refl bs = let z : length bs - length bs ≡ 0 = omega arith in record { within = omega arith; dropped = rw z }
 
-end-append : (w rest : List ℕ) → End (w ++ rest) rest
+pub end-append : (w rest : List ℕ) → End (w ++ rest) rest
 end-append w rest = let l : length (w ++ rest) ≡ length w + length rest = length-append w rest in record { within = omega arith; dropped = drop-at w rest (length (w ++ rest) - length rest) (omega arith) }
 
 pub end-trans : {bs mid rest : List ℕ} → End bs mid → End mid rest → End bs rest
@@ -212,6 +212,24 @@ places-more s found at n l h =
     let e : 32 - n - 1 ≡ 32 - (n + 1) = omega arith in
     let f : n + 1 + 1 ≡ suc (n + 1) = omega arith in
     rw (places-next s p (32 - n) (omega arith), e, f, take-suc-set found (n + 1) p (omega arith), append-snoc)
+
+-- A place within the text is where the rest stands; a place past its end says that nothing was read.
+module _ {A : Type 0} (s : List ℕ) (at : ℕ) {read : Reader A} (t : Tail read) where
+  pub missing : length s < endOf s (read (drop at s)) → read (drop at s) ≡ bad
+  unfolding endOf
+  missing h = go (t .tail (drop at s)) h
+    where
+      go : {x : Parsed A} → Gives (λ _ rest. End (drop at s) rest) x → length s < endOf s x → x ≡ bad
+      go nothing h = refl
+      go (gives e) h = absurd (omega arith)
+
+  pub there : endOf s (read (drop at s)) ≤ length s → (a : A) × (read (drop at s) ≡ got a (drop (endOf s (read (drop at s))) s))
+  unfolding endOf
+  there h = go (t .tail (drop at s)) h
+    where
+      go : {x : Parsed A} → Gives (λ _ rest. End (drop at s) rest) x → endOf s x ≤ length s → (a : A) × (x ≡ got a (drop (endOf s x) s))
+      go nothing h = absurd (omega arith)
+      go (gives {a} {rest} e) h = (a, ap (got a) (sym (end-drop s at rest e)))
 
 -- A walk that finds its end: the place is within the text, and the rest stands there.
 pub landed : {A : Type 0} (s : List ℕ) (at : ℕ) {read : Reader A} {a : A} {rest : List ℕ} → Tail read → read (drop at s) ≡ got a rest → (endOf s (read (drop at s)) ≤ length s) × (drop (endOf s (read (drop at s))) s ≡ rest)

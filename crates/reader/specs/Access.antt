@@ -1,6 +1,6 @@
 -- Finding the parts of a clause in its bytes: what stands in brackets, one item after another.
 use Prim.Native.Nat.{ℕ, zero, suc, _+_, _-_}
-use mathlib.Core.Bool.{cond, _&&_}
+use mathlib.Core.Bool.{Bool, true, false, cond, _&&_, _||_}
 use mathlib.Core.List.{List, [], _∷_}
 use lib.Dec.{eqb, ltb, leb}
 use lib.ListN.{length, take, drop, getD}
@@ -58,3 +58,26 @@ entryOf s starts n =
     let from = getD starts n 0 in
     let to = getD starts (n + 1) 0 in
     cond (ltb from to && leb to (length s)) (take (to - (from + 1)) (drop (from + 1) s)) []
+
+unfoldable pub stood : Parsed (Unit {0}) → Bool
+stood bad = false
+stood (got u rest) = true
+
+-- A term begins with "(v " or "(f ".
+unfoldable pub beginsTerm : List ℕ → Bool
+beginsTerm bs = stood (skip "(v " bs) || stood (skip "(f " bs)
+
+-- "Occurrences are counted from 0 .., left to right, a term before its parts, variables included":
+-- from inside an item, with n brackets open in it, to the term that k terms come before.
+unfoldable pub seek : ℕ → ℕ → Reader (Unit {0})
+seek k n [] = bad
+seek k n (b ∷ bs) =
+    let passed = seek (k - 1) (n + 1) bs in
+    let deeper = seek k (n + 1) bs in
+    let out = seek k (n - 1) bs in
+    let on = seek k n bs in
+    let term = cond (eqb k 0) (got tt (b ∷ bs)) passed in
+    cond (eqb b 40) (cond (beginsTerm (b ∷ bs)) term deeper) (cond (eqb b 41) (cond (eqb n 0) bad out) on)
+
+unfoldable pub toOccurrence : ℕ → Reader (Unit {0})
+toOccurrence k = skip "(" >> seek k 0

@@ -12,3 +12,4 @@ pub mod Heads
 pub mod Summary
 pub mod Tables
 pub mod LineAt
+pub mod View

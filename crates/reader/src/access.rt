@@ -1,9 +1,12 @@
 // Finding the parts of a clause in its bytes.
 use crate::words::word;
+use logic::Arrow;
+use logic::Link;
 ghost use mathlib.Core.Path.{_≡_};
 ghost use lib.ListN.{drop};
 ghost use Rattle.reader.specs.Places.{endOf};
-ghost use Rattle.reader.specs.Access.{skipItem, passItem, toItem, opening, toArgument, howMany, places, entryOf};
+ghost use Rattle.reader.specs.Access.{skipItem, passItem, toItem, opening, toArgument, howMany, places, entryOf, beginsTerm, toOccurrence};
+ghost use Rattle.reader.specs.View.{kindAt, readKindWord, nextItem, atomAt, viewAt};
 
 // The place past the item that begins at `at`.
 pub fn skip(s: &[u8], at: usize) -> usize
@@ -125,4 +128,192 @@ pub fn entry<'a>(s: &'a [u8], starts: &[usize], n: usize) -> &'a [u8]
     }
     let begin = from + 1;
     &s[begin..to]
+}
+
+// The kinds of atoms.
+pub enum Kind {
+    Linked(Link),
+    Object,
+    Method(Arrow),
+    Other,
+}
+
+pub struct KindAt {
+    pub kind: Kind,
+    pub end: usize,
+}
+
+// The kind of the atom whose word stands at `at`, and the place of its first term.
+pub fn kind_at(s: &[u8], at: usize) -> KindAt
+    ensures { λ r. ⌜ r ≡ kindAt (now (s .entry)) (readKindWord (drop at (now (s .entry)))) ⌝ }
+{
+    let end = word(s, at, b"eq ");
+    if end <= s.len() {
+        return KindAt {
+            kind: Kind::Linked(Link::Eq),
+            end,
+        };
+    }
+    let end = word(s, at, b"mem ");
+    if end <= s.len() {
+        return KindAt {
+            kind: Kind::Linked(Link::Mem),
+            end,
+        };
+    }
+    let end = word(s, at, b"sub ");
+    if end <= s.len() {
+        return KindAt {
+            kind: Kind::Linked(Link::Sub),
+            end,
+        };
+    }
+    let end = word(s, at, b"obj ");
+    if end <= s.len() {
+        return KindAt {
+            kind: Kind::Object,
+            end,
+        };
+    }
+    let end = word(s, at, b"sv ");
+    if end <= s.len() {
+        return KindAt {
+            kind: Kind::Method(Arrow::Sv),
+            end,
+        };
+    }
+    let end = word(s, at, b"si ");
+    if end <= s.len() {
+        return KindAt {
+            kind: Kind::Method(Arrow::Si),
+            end,
+        };
+    }
+    let end = word(s, at, b"mv ");
+    if end <= s.len() {
+        return KindAt {
+            kind: Kind::Method(Arrow::Mv),
+            end,
+        };
+    }
+    let end = word(s, at, b"mi ");
+    if end <= s.len() {
+        return KindAt {
+            kind: Kind::Method(Arrow::Mi),
+            end,
+        };
+    }
+    let end = word(s, at, b"st ");
+    if end <= s.len() {
+        return KindAt {
+            kind: Kind::Method(Arrow::St),
+            end,
+        };
+    }
+    let end = word(s, at, b"mt ");
+    if end <= s.len() {
+        return KindAt {
+            kind: Kind::Method(Arrow::Mt),
+            end,
+        };
+    }
+    KindAt {
+        kind: Kind::Other,
+        end: s.len() + 1,
+    }
+}
+
+// The place past an item and the space behind it.
+fn next(s: &[u8], at: usize) -> usize
+    ensures { λ r. ⌜ r ≡ nextItem (now (s .entry)) at ⌝ }
+{
+    word(s, skip(s, at), b" ")
+}
+
+// The place of the word of a literal's atom.
+fn atom(s: &[u8], at: usize) -> usize
+    ensures { λ r. ⌜ r ≡ atomAt (now (s .entry)) at ⌝ }
+{
+    let plus = word(s, at, b"(+ (");
+    if plus <= s.len() {
+        return plus;
+    }
+    word(s, at, b"(- (")
+}
+
+// A literal's sign and kind, the places of the items of its atom, and whether the fourth is the word none.
+pub struct View {
+    pub positive: bool,
+    pub kind: Kind,
+    pub first: usize,
+    pub second: usize,
+    pub third: usize,
+    pub fourth: usize,
+    pub bare: bool,
+}
+
+pub fn literal(s: &[u8], at: usize) -> View
+    ensures { λ r. ⌜ r ≡ viewAt (now (s .entry)) at ⌝ }
+{
+    let positive = word(s, at, b"(+ (") <= s.len();
+    let head = kind_at(s, atom(s, at));
+    let first = head.end;
+    let kind = head.kind;
+    let second = next(s, first);
+    let third = next(s, second);
+    let fourth = next(s, third);
+    let bare = word(s, fourth, b"none") <= s.len();
+    View {
+        positive,
+        kind,
+        first,
+        second,
+        third,
+        fourth,
+        bare,
+    }
+}
+
+// Whether a term begins at the place.
+fn term(s: &[u8], at: usize) -> bool
+    ensures { λ r. ⌜ r ≡ beginsTerm (drop at (now (s .entry))) ⌝ }
+{
+    if word(s, at, b"(v ") <= s.len() {
+        return true;
+    }
+    word(s, at, b"(f ") <= s.len()
+}
+
+// The place of term occurrence k in the item that begins at `at`.
+pub fn occurrence(s: &[u8], at: usize, k: usize) -> usize
+    ensures { λ r. ⌜ r ≡ endOf (now (s .entry)) (toOccurrence k (drop at (now (s .entry)))) ⌝ }
+{
+    let mut i = word(s, at, b"(");
+    let mut left = k;
+    let mut level: usize = 0;
+    while i < s.len() {
+        let b = s[i];
+        if b == b'(' {
+            if term(s, i) {
+                if left == 0 {
+                    return i;
+                }
+                left -= 1;
+                level += 1;
+                i += 1;
+            } else {
+                level += 1;
+                i += 1;
+            }
+        } else {
+            i += 1;
+            if b == b')' {
+                if level == 0 {
+                    return s.len() + 1;
+                }
+                level -= 1;
+            }
+        }
+    }
+    s.len() + 1
 }

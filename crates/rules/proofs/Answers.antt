@@ -10,27 +10,9 @@ use Rattle.reader.specs.Places.{endOf, readOr, numberAt}
 use Rattle.reader.proofs.Gives.{Gives, nothing, gives}
 use Rattle.reader.proofs.Number.{number-sound}
 use Rattle.reader.proofs.Plain.{number-plain}
-use Rattle.reader.proofs.Positions.{End, Tail, end-trans, end-drop, strip-tail, sound-tail}
+use Rattle.reader.proofs.Positions.{End, Tail, missing, there, end-trans, end-drop, strip-tail, sound-tail}
 use Rattle.rules.specs.declared.compare.Ends.{Ends}
 use Rattle.rules.specs.Filled.{readIndex, indexed, matches, endsOf}
-
--- A place within the text is where the rest stands; a place past its end says that nothing was read.
-module _ {A : Type 0} (s : List ℕ) (at : ℕ) {read : Reader A} (t : Tail read) where
-  pub missing : length s < endOf s (read (drop at s)) → read (drop at s) ≡ bad
-  unfolding endOf
-  missing h = go (t .tail (drop at s)) h
-    where
-      go : {x : Parsed A} → Gives (λ _ rest. End (drop at s) rest) x → length s < endOf s x → x ≡ bad
-      go nothing h = refl
-      go (gives e) h = absurd (omega arith)
-
-  pub there : endOf s (read (drop at s)) ≤ length s → (a : A) × (read (drop at s) ≡ got a (drop (endOf s (read (drop at s))) s))
-  unfolding endOf
-  there h = go (t .tail (drop at s)) h
-    where
-      go : {x : Parsed A} → Gives (λ _ rest. End (drop at s) rest) x → endOf s x ≤ length s → (a : A) × (x ≡ got a (drop (endOf s x) s))
-      go nothing h = absurd (omega arith)
-      go (gives {a} {rest} e) h = (a, ap (got a) (sym (end-drop s at rest e)))
 
 pub ends-at : (p t : List ℕ) (i j : ℕ) {whole : Parsed (List ℕ)} → i ≤ length p → j ≤ length t → whole ≡ got (drop j t) (drop i p) → record { at = i; pos = j } ≡ endsOf p t whole
 unfolding endsOf

@@ -7,11 +7,11 @@ use lib.ListN.{length, drop, getD, length-drop, drop-of-length-le}
 use Rattle.reader.specs.Read.{Parsed, bad, got, Reader, after, strip}
 use Rattle.reader.specs.Places.{endOf}
 use Rattle.reader.specs.Access.{skipItem, entryOf}
-use Rattle.reader.proofs.Positions.{strip-tail, skip-tail}
+use Rattle.reader.proofs.Positions.{missing, there, strip-tail, skip-tail}
 use Rattle.rules.specs.declared.compare.Ends.{Ends}
 use Rattle.rules.specs.Filled.{Filler, instead, indexed, front, inside, fillItem, plain, replacing, matches, endsOf}
 use Rattle.rules.proofs.Walk.{fill-zero, fill-empty, fill-hole, fill-variable, fill-bracket, fill-other, fill-shrinks, byte-here, byte-none, byte-other, Landed, missed, landed, land, Going, going-from, never-front, matching}
-use Rattle.rules.proofs.Answers.{missing, there, ends-at, ends-bad}
+use Rattle.rules.proofs.Answers.{ends-at, ends-bad}
 
 -- A call of `expect`.
 pub record Call : Type 0 where

@@ -10,11 +10,11 @@ use Rattle.reader.specs.Places.{endOf}
 use Rattle.reader.specs.Access.{entryOf}
 use Rattle.reader.proofs.Tests.{onTest}
 use Rattle.reader.proofs.Gives.{Gives, nothing, gives, weaken, bind}
-use Rattle.reader.proofs.Positions.{End, Tail, end-refl, end-trans, end-cons, strip-tail}
+use Rattle.reader.proofs.Positions.{missing, there, End, Tail, end-refl, end-trans, end-cons, strip-tail}
 use Rattle.rules.specs.declared.compare.Ends.{Ends}
 use Rattle.rules.specs.Filled.{Filler, indexed, fillItem, plain, matches, endsOf, along, whole, both, turned, sameItem}
 use Rattle.rules.proofs.Walk.{Less, Shrinks, less-cons, less-end, index-tail, fill-shrinks, byte-here, Pair, Both, Shortens, matching, Landed, missed, landed, Going}
-use Rattle.rules.proofs.Answers.{missing, there, Indexed, without, index}
+use Rattle.rules.proofs.Answers.{Indexed, without, index}
 
 -- The steps.
 module _ (f g : Filler) where
