@@ -22,3 +22,4 @@ pub mod Choices
 pub mod AtomParts
 pub mod ClauseParts
 pub mod LineParts
+pub mod StateCode

@@ -10,3 +10,4 @@ pub mod Places
 pub mod Summary
 pub mod Tables
 pub mod LineAt
+pub mod ReadLine
