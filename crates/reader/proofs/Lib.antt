@@ -29,3 +29,4 @@ pub mod ClauseParts
 pub mod LineParts
 pub mod Views
 pub mod Occurrences
+pub mod StateCode

@@ -13,3 +13,4 @@ pub mod Summary
 pub mod Tables
 pub mod LineAt
 pub mod View
+pub mod ReadLine
