@@ -5,13 +5,13 @@ use mathlib.Core.List.{List, []}
 use native.Mathlib.Omega.{arith}
 use lib.Dec.{T, leb→le, le→leb}
 use Rattle.logic.specs.Syntax.{Term, Line}
-use Rattle.reader.specs.Write.{Writer, _∘_, word, putTerm, putTerms, putAtom, putClause, writeLine}
+use Rattle.reader.specs.Write.{Writer, _∘_, word, putTerm, putTerms, putArguments, putAtom, putClause, writeLine}
 use Rattle.reader.specs.Form.{depthOf, depthOfs, numbered, numbereds, formedTerm, formedTerms, formedAtom, formedClause, formedLine}
-use Rattle.reader.specs.Read.{Parsed, bad, got, Reader, readTerm, readTerms, readAtom, readClause, readForm}
+use Rattle.reader.specs.Read.{Parsed, bad, got, Reader, readTerm, readTerms, readArguments, readAtom, readClause, readForm}
 use Rattle.reader.proofs.Tests.{T-and}
 use Rattle.reader.proofs.Gives.{Gives, nothing, gives, given, Complete}
 use Rattle.reader.proofs.Sound.{term-sound}
-use Rattle.reader.proofs.Complete.{term-complete, terms-complete, atom-complete, clause-complete, form-complete}
+use Rattle.reader.proofs.Complete.{term-complete, terms-complete, arguments-complete, atom-complete, clause-complete, form-complete}
 
 abbrev pub Unique : {A : Type 0} → (A → Writer) → (A → Type 0) → Type 0
 Unique {A} put formed = (a b : A) (r s : List ℕ) → formed a → formed b → put a r ≡ put b s → (a ≡ b) × (r ≡ s)
@@ -33,6 +33,12 @@ unfolding formedTerms
 terms-unique ts us r s m n e =
     let d = max (depthOfs ts) (depthOfs us) in
     unique (readTerms (readTerm d)) (terms-complete d) ts us r s (simp T-and (omega (arith, le→leb), m)) (simp T-and (omega (arith, le→leb), n)) e
+
+pub arguments-unique : Unique putArguments (λ ts. T (numbereds ts))
+unfolding formedTerms
+arguments-unique ts us r s m n e =
+    let d = max (depthOfs ts) (depthOfs us) in
+    unique (readArguments d) (arguments-complete d) ts us r s (simp T-and (omega (arith, le→leb), m)) (simp T-and (omega (arith, le→leb), n)) e
 
 pub atom-unique : (d : ℕ) → Unique putAtom (λ a. T (formedAtom d a))
 atom-unique d = unique (readAtom d) (atom-complete d)

@@ -9,3 +9,4 @@ pub mod Sameness
 pub mod Claiming
 pub mod Claimed
 pub mod Alike
+pub mod Agreed
