@@ -10,3 +10,4 @@ pub mod Claiming
 pub mod Claimed
 pub mod Alike
 pub mod Agreed
+pub mod Answered
