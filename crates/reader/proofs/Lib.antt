@@ -23,3 +23,4 @@ pub mod AtomParts
 pub mod ClauseParts
 pub mod LineParts
 pub mod StateCode
+pub mod Sizes

@@ -11,3 +11,4 @@ pub mod Summary
 pub mod Tables
 pub mod LineAt
 pub mod ReadLine
+pub mod Size

@@ -5,6 +5,7 @@ pub mod forms;
 pub mod kinds;
 pub mod numbers;
 pub mod states;
+pub mod texts;
 pub mod summaries;
 pub mod tables;
 pub mod terms;
