@@ -24,3 +24,5 @@ pub mod ClauseParts
 pub mod LineParts
 pub mod StateCode
 pub mod Sizes
+pub mod Limits
+pub mod Held

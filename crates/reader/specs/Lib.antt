@@ -12,3 +12,4 @@ pub mod Tables
 pub mod LineAt
 pub mod ReadLine
 pub mod Size
+pub mod Represents
