@@ -30,3 +30,6 @@ pub mod LineParts
 pub mod Views
 pub mod Occurrences
 pub mod StateCode
+pub mod Sizes
+pub mod Limits
+pub mod Held

@@ -34,7 +34,7 @@ module _ (table : List ℕ) (i : ℕ) where
   constant-none h = rw (past table i h)
 
 -- What a line that passes checks 2 to 6 has.
-zero-or : (b : Bool) (n k : ℕ) → (k ≡ 0 → ⊥) → cond b n k ≡ 0 → T b × (n ≡ 0)
+pub zero-or : (b : Bool) (n k : ℕ) → (k ≡ 0 → ⊥) → cond b n k ≡ 0 → T b × (n ≡ 0)
 zero-or true n k h e = (tt, e)
 zero-or false n k h e = absurd (h e)
 

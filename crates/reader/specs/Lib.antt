@@ -14,3 +14,5 @@ pub mod Tables
 pub mod LineAt
 pub mod View
 pub mod ReadLine
+pub mod Size
+pub mod Represents

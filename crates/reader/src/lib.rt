@@ -9,4 +9,5 @@ pub mod states;
 pub mod summaries;
 pub mod tables;
 pub mod terms;
+pub mod texts;
 pub mod words;

@@ -1,8 +1,8 @@
 -- The eleven checks of document 01, "The verdict", at the lines of a text.
 use Prim.Native.Nat.{ℕ, zero, suc}
-use mathlib.Core.Bool.{Bool, not, _||_}
+use mathlib.Core.Bool.{Bool, not}
 use mathlib.Core.List.{List, [], _∷_, _++_, map}
-use lib.Dec.{T, ltb}
+use lib.Dec.{T}
 use lib.ListN.{length}
 use Rattle.logic.specs.Syntax.{Clause, Step, Line, sym, input, by}
 use Rattle.logic.specs.Checks.{AllPass}
@@ -10,15 +10,12 @@ use Rattle.logic.specs.Judge.{stepChecks, judge, judgedNumber}
 use Rattle.reader.specs.Read.{Reading, form, noForm}
 use Rattle.reader.specs.Split.{split, readRaw}
 use Rattle.reader.specs.Figures.{Figures}
+unfoldable pub use Rattle.reader.specs.Size.{tooLarge}
 use Rattle.reader.specs.State.{State, fresh, clauses, hasConstant, lineChecks, lineFailure, after, stateAfter}
 
 -- The lines of a text, each read as a form or not.
 unfoldable pub readings : Figures → List ℕ → List Reading
 readings F text = map (readRaw (F .depth)) (split text)
-
--- "1. The text has too many bytes or lines"
-unfoldable pub tooLarge : Figures → List ℕ → Bool
-tooLarge F text = ltb (F .bytes) (length text) || ltb (F .lines) (length (split text))
 
 -- Checks 7 to 11 are about by lines.
 unfoldable pub stepPart : State → Line → List (Type 0)

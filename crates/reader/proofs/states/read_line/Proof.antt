@@ -55,7 +55,7 @@ enum-told-2 c = search needs
 
 -- src/states.rt:165:17
 add-symbol-requires : tie.Need-add-symbol-requires
-add-symbol-requires c κs = let a = (c .before .before .before .before .before .before .before .before .before .before .before .args) in let st = a .state in let L = (c .before .before .before .before .before .line) .result in let k : (c .before .before .before .before .before .before .before .if1) .known ≡ min ((c .before .before .before .before .before .before .before .before .before .before .before .args) .state .symbols) (length ((c .before .before .before .before .before .before .before .before .before .before .before .args) .state .counts)) = ⊎-elim (λ w. omega arith) (λ w. omega arith) ((c .before .before .before .before .before .before .before .if1) .came) in let z : (c .before .before .before .failure) .result ≡ 0 = omega (arith, (c .before .before .if2) .left) in let e : L .form ≡ Sym = cc in sym-passed (st .symbols) (st .clauses) (st .inputs) ((c .before .before .before .before .has-constant) .result) L e (sym ((c .before .before .before .failure) .ensures) ∙ z)
+add-symbol-requires c κs = let a = (c .before .before .before .before .before .before .before .before .before .before .before .args) in let st = a .state in let L = (c .before .before .before .before .before .line) .result in let k : (c .before .before .before .before .before .before .before .if1) .known ≡ min ((c .before .before .before .before .before .before .before .before .before .before .before .args) .state .symbols) (length ((c .before .before .before .before .before .before .before .before .before .before .before .args) .state .counts)) = ⊎-elim (λ w. omega arith) (λ w. omega arith) ((c .before .before .before .before .before .before .before .if1) .came) in let z : (c .before .before .before .failure) .result ≡ 0 = omega (arith, (c .before .before .if2) .left) in let e : L .form ≡ Sym = c .enum-told2 .given .1 in sym-passed (st .symbols) (st .clauses) (st .inputs) ((c .before .before .before .before .has-constant) .result) L e (sym ((c .before .before .before .failure) .ensures) ∙ z)
 
 -- src/states.rt:169:42
 enum-told-3 : tie.Need-enum-told-3
@@ -67,11 +67,11 @@ place-requires c κs = search needs
 
 -- src/states.rt:169:66
 add-add-clause : tie.Need-add-add-clause
-add-add-clause c = let a = (c .before .before .before .before .before .before .before .before .before .before .before .before .before .args) in let st = a .state in let L = (c .before .before .before .before .before .before .before .line) .result in let k : (c .before .before .before .before .before .before .before .before .before .if1) .known ≡ min ((c .before .before .before .before .before .before .before .before .before .before .before .before .before .args) .state .symbols) (length ((c .before .before .before .before .before .before .before .before .before .before .before .before .before .args) .state .counts)) = ⊎-elim (λ w. omega arith) (λ w. omega arith) ((c .before .before .before .before .before .before .before .before .before .if1) .came) in let z : (c .before .before .before .before .before .failure) .result ≡ 0 = omega (arith, (c .before .before .before .before .if2) .left) in let e : L .form ≡ Input = cc in omega (arith, input-passed (st .symbols) (st .clauses) (st .inputs) ((c .before .before .before .before .before .before .has-constant) .result) L e (sym ((c .before .before .before .before .before .failure) .ensures) ∙ z))
+add-add-clause c = let a = (c .before .before .before .before .before .before .before .before .before .before .before .before .before .args) in let st = a .state in let L = (c .before .before .before .before .before .before .before .line) .result in let k : (c .before .before .before .before .before .before .before .before .before .if1) .known ≡ min ((c .before .before .before .before .before .before .before .before .before .before .before .before .before .args) .state .symbols) (length ((c .before .before .before .before .before .before .before .before .before .before .before .before .before .args) .state .counts)) = ⊎-elim (λ w. omega arith) (λ w. omega arith) ((c .before .before .before .before .before .before .before .before .before .if1) .came) in let z : (c .before .before .before .before .before .failure) .result ≡ 0 = omega (arith, (c .before .before .before .before .if2) .left) in let e : L .form ≡ Input = c .before .before .enum-told3 .given .1 in omega (arith, input-passed (st .symbols) (st .clauses) (st .inputs) ((c .before .before .before .before .before .before .has-constant) .result) L e (sym ((c .before .before .before .before .before .failure) .ensures) ∙ z))
 
 -- src/states.rt:169:17
 add-clause-requires : tie.Need-add-clause-requires
-add-clause-requires c κs = let a = (c .before .before .before .before .before .before .before .before .before .before .before .before .before .args) in let st = a .state in let L = (c .before .before .before .before .before .before .before .line) .result in let k : (c .before .before .before .before .before .before .before .before .before .if1) .known ≡ min ((c .before .before .before .before .before .before .before .before .before .before .before .before .before .args) .state .symbols) (length ((c .before .before .before .before .before .before .before .before .before .before .before .before .before .args) .state .counts)) = ⊎-elim (λ w. omega arith) (λ w. omega arith) ((c .before .before .before .before .before .before .before .before .before .if1) .came) in let z : (c .before .before .before .before .before .failure) .result ≡ 0 = omega (arith, (c .before .before .before .before .if2) .left) in let e : L .form ≡ Input = cc in input-passed (st .symbols) (st .clauses) (st .inputs) ((c .before .before .before .before .before .before .has-constant) .result) L e (sym ((c .before .before .before .before .before .failure) .ensures) ∙ z) .0
+add-clause-requires c κs = let a = (c .before .before .before .before .before .before .before .before .before .before .before .before .before .args) in let st = a .state in let L = (c .before .before .before .before .before .before .before .line) .result in let k : (c .before .before .before .before .before .before .before .before .before .if1) .known ≡ min ((c .before .before .before .before .before .before .before .before .before .before .before .before .before .args) .state .symbols) (length ((c .before .before .before .before .before .before .before .before .before .before .before .before .before .args) .state .counts)) = ⊎-elim (λ w. omega arith) (λ w. omega arith) ((c .before .before .before .before .before .before .before .before .before .if1) .came) in let z : (c .before .before .before .before .before .failure) .result ≡ 0 = omega (arith, (c .before .before .before .before .if2) .left) in let e : L .form ≡ Input = c .before .before .enum-told3 .given .1 in input-passed (st .symbols) (st .clauses) (st .inputs) ((c .before .before .before .before .before .before .has-constant) .result) L e (sym ((c .before .before .before .before .before .failure) .ensures) ∙ z) .0
 
 -- src/states.rt:173:42
 enum-told-4 : tie.Need-enum-told-4
@@ -83,27 +83,27 @@ place-requires-2 c κs = search needs
 
 -- src/states.rt:173:17
 add-clause-requires-2 : tie.Need-add-clause-requires-2
-add-clause-requires-2 c κs = let a = (c .before .before .before .before .before .before .before .before .before .before .before .before .args) in let st = a .state in let L = (c .before .before .before .before .before .before .line) .result in let k : (c .before .before .before .before .before .before .before .before .if1) .known ≡ min ((c .before .before .before .before .before .before .before .before .before .before .before .before .args) .state .symbols) (length ((c .before .before .before .before .before .before .before .before .before .before .before .before .args) .state .counts)) = ⊎-elim (λ w. omega arith) (λ w. omega arith) ((c .before .before .before .before .before .before .before .before .if1) .came) in let z : (c .before .before .before .before .failure) .result ≡ 0 = omega (arith, (c .before .before .before .if2) .left) in let e : L .form ≡ By = cc in by-passed (st .symbols) (st .clauses) (st .inputs) ((c .before .before .before .before .before .has-constant) .result) L e (sym ((c .before .before .before .before .failure) .ensures) ∙ z)
+add-clause-requires-2 c κs = let a = (c .before .before .before .before .before .before .before .before .before .before .before .before .args) in let st = a .state in let L = (c .before .before .before .before .before .before .line) .result in let k : (c .before .before .before .before .before .before .before .before .if1) .known ≡ min ((c .before .before .before .before .before .before .before .before .before .before .before .before .args) .state .symbols) (length ((c .before .before .before .before .before .before .before .before .before .before .before .before .args) .state .counts)) = ⊎-elim (λ w. omega arith) (λ w. omega arith) ((c .before .before .before .before .before .before .before .before .if1) .came) in let z : (c .before .before .before .before .failure) .result ≡ 0 = omega (arith, (c .before .before .before .if2) .left) in let e : L .form ≡ By = c .before .enum-told4 .given .1 in by-passed (st .symbols) (st .clauses) (st .inputs) ((c .before .before .before .before .before .has-constant) .result) L e (sym ((c .before .before .before .before .failure) .ensures) ∙ z)
 
 -- src/states.rt:145:1
 returns-2 : tie.Need-returns-2
 unfolding advanced isBy
-returns-2 c = let a = (c .before .before .before .before .before .before .before .before .before .before .before .args) in let st = a .state in let L = (c .before .before .before .before .before .line) .result in let k : (c .before .before .before .before .before .before .before .if1) .known ≡ min ((c .before .before .before .before .before .before .before .before .before .before .before .args) .state .symbols) (length ((c .before .before .before .before .before .before .before .before .before .before .before .args) .state .counts)) = ⊎-elim (λ w. omega arith) (λ w. omega arith) ((c .before .before .before .before .before .before .before .if1) .came) in let z : (c .before .before .before .failure) .result ≡ 0 = omega (arith, (c .before .before .if2) .left) in let e : L .form ≡ NoForm = cc in went-on st (now (a .text)) (a .start) (held (st .counts) (st .symbols) ((c .before .before .before .before .before .before .before .if1) .known) k) ((c .before .before .before .before .before .line) .ensures) ((c .before .before .before .before .has-constant) .ensures) ((c .before .before .before .failure) .ensures) z (ap isBy (sym e)) (ap (advanced st (a .start) L) (sym e))
+returns-2 c = let a = (c .before .before .before .before .before .before .before .before .before .before .before .args) in let st = a .state in let L = (c .before .before .before .before .before .line) .result in let k : (c .before .before .before .before .before .before .before .if1) .known ≡ min ((c .before .before .before .before .before .before .before .before .before .before .before .args) .state .symbols) (length ((c .before .before .before .before .before .before .before .before .before .before .before .args) .state .counts)) = ⊎-elim (λ w. omega arith) (λ w. omega arith) ((c .before .before .before .before .before .before .before .if1) .came) in let z : (c .before .before .before .failure) .result ≡ 0 = omega (arith, (c .before .before .if2) .left) in let e : L .form ≡ NoForm = c .enum-told .given .1 in went-on st (now (a .text)) (a .start) (held (st .counts) (st .symbols) ((c .before .before .before .before .before .before .before .if1) .known) k) ((c .before .before .before .before .before .line) .ensures) ((c .before .before .before .before .has-constant) .ensures) ((c .before .before .before .failure) .ensures) z (ap isBy (sym e)) (ap (advanced st (a .start) L) (sym e))
 
 -- src/states.rt:145:1
 returns-3 : tie.Need-returns-3
 unfolding advanced isBy
-returns-3 c = let a = (c .before .before .before .before .before .before .before .before .before .before .before .before .args) in let st = a .state in let L = (c .before .before .before .before .before .before .line) .result in let k : (c .before .before .before .before .before .before .before .before .if1) .known ≡ min ((c .before .before .before .before .before .before .before .before .before .before .before .before .args) .state .symbols) (length ((c .before .before .before .before .before .before .before .before .before .before .before .before .args) .state .counts)) = ⊎-elim (λ w. omega arith) (λ w. omega arith) ((c .before .before .before .before .before .before .before .before .if1) .came) in let z : (c .before .before .before .before .failure) .result ≡ 0 = omega (arith, (c .before .before .before .if2) .left) in let e : L .form ≡ Sym = cc in went-on st (now (a .text)) (a .start) (held (st .counts) (st .symbols) ((c .before .before .before .before .before .before .before .before .if1) .known) k) ((c .before .before .before .before .before .before .line) .ensures) ((c .before .before .before .before .before .has-constant) .ensures) ((c .before .before .before .before .failure) .ensures) z (ap isBy (sym e)) ((c .add-symbol) .ensures ∙ ap (advanced st (a .start) L) (sym e))
+returns-3 c = let a = (c .before .before .before .before .before .before .before .before .before .before .before .before .args) in let st = a .state in let L = (c .before .before .before .before .before .before .line) .result in let k : (c .before .before .before .before .before .before .before .before .if1) .known ≡ min ((c .before .before .before .before .before .before .before .before .before .before .before .before .args) .state .symbols) (length ((c .before .before .before .before .before .before .before .before .before .before .before .before .args) .state .counts)) = ⊎-elim (λ w. omega arith) (λ w. omega arith) ((c .before .before .before .before .before .before .before .before .if1) .came) in let z : (c .before .before .before .before .failure) .result ≡ 0 = omega (arith, (c .before .before .before .if2) .left) in let e : L .form ≡ Sym = c .before .enum-told2 .given .1 in went-on st (now (a .text)) (a .start) (held (st .counts) (st .symbols) ((c .before .before .before .before .before .before .before .before .if1) .known) k) ((c .before .before .before .before .before .before .line) .ensures) ((c .before .before .before .before .before .has-constant) .ensures) ((c .before .before .before .before .failure) .ensures) z (ap isBy (sym e)) ((c .add-symbol) .ensures ∙ ap (advanced st (a .start) L) (sym e))
 
 -- src/states.rt:145:1
 returns-4 : tie.Need-returns-4
 unfolding advanced isBy
-returns-4 c = let a = (c .before .before .before .before .before .before .before .before .before .before .before .before .before .before .args) in let st = a .state in let L = (c .before .before .before .before .before .before .before .before .line) .result in let k : (c .before .before .before .before .before .before .before .before .before .before .if1) .known ≡ min ((c .before .before .before .before .before .before .before .before .before .before .before .before .before .before .args) .state .symbols) (length ((c .before .before .before .before .before .before .before .before .before .before .before .before .before .before .args) .state .counts)) = ⊎-elim (λ w. omega arith) (λ w. omega arith) ((c .before .before .before .before .before .before .before .before .before .before .if1) .came) in let z : (c .before .before .before .before .before .before .failure) .result ≡ 0 = omega (arith, (c .before .before .before .before .before .if2) .left) in let e : L .form ≡ Input = cc in went-on st (now (a .text)) (a .start) (held (st .counts) (st .symbols) ((c .before .before .before .before .before .before .before .before .before .before .if1) .known) k) ((c .before .before .before .before .before .before .before .before .line) .ensures) ((c .before .before .before .before .before .before .before .has-constant) .ensures) ((c .before .before .before .before .before .before .failure) .ensures) z (ap isBy (sym e)) ((c .add-clause) .ensures ∙ rw ((c .before .before .place) .ensures) (ap (advanced st (a .start) L) (sym e)))
+returns-4 c = let a = (c .before .before .before .before .before .before .before .before .before .before .before .before .before .before .args) in let st = a .state in let L = (c .before .before .before .before .before .before .before .before .line) .result in let k : (c .before .before .before .before .before .before .before .before .before .before .if1) .known ≡ min ((c .before .before .before .before .before .before .before .before .before .before .before .before .before .before .args) .state .symbols) (length ((c .before .before .before .before .before .before .before .before .before .before .before .before .before .before .args) .state .counts)) = ⊎-elim (λ w. omega arith) (λ w. omega arith) ((c .before .before .before .before .before .before .before .before .before .before .if1) .came) in let z : (c .before .before .before .before .before .before .failure) .result ≡ 0 = omega (arith, (c .before .before .before .before .before .if2) .left) in let e : L .form ≡ Input = c .before .before .before .enum-told3 .given .1 in went-on st (now (a .text)) (a .start) (held (st .counts) (st .symbols) ((c .before .before .before .before .before .before .before .before .before .before .if1) .known) k) ((c .before .before .before .before .before .before .before .before .line) .ensures) ((c .before .before .before .before .before .before .before .has-constant) .ensures) ((c .before .before .before .before .before .before .failure) .ensures) z (ap isBy (sym e)) ((c .add-clause) .ensures ∙ rw ((c .before .before .place) .ensures) (ap (advanced st (a .start) L) (sym e)))
 
 -- src/states.rt:145:1
 returns-5 : tie.Need-returns-5
 unfolding advanced isBy
-returns-5 c = let a = (c .before .before .before .before .before .before .before .before .before .before .before .before .before .args) in let st = a .state in let L = (c .before .before .before .before .before .before .before .line) .result in let k : (c .before .before .before .before .before .before .before .before .before .if1) .known ≡ min ((c .before .before .before .before .before .before .before .before .before .before .before .before .before .args) .state .symbols) (length ((c .before .before .before .before .before .before .before .before .before .before .before .before .before .args) .state .counts)) = ⊎-elim (λ w. omega arith) (λ w. omega arith) ((c .before .before .before .before .before .before .before .before .before .if1) .came) in let z : (c .before .before .before .before .before .failure) .result ≡ 0 = omega (arith, (c .before .before .before .before .if2) .left) in let e : L .form ≡ By = cc in went-on st (now (a .text)) (a .start) (held (st .counts) (st .symbols) ((c .before .before .before .before .before .before .before .before .before .if1) .known) k) ((c .before .before .before .before .before .before .before .line) .ensures) ((c .before .before .before .before .before .before .has-constant) .ensures) ((c .before .before .before .before .before .failure) .ensures) z (ap isBy (sym e)) ((c .add-clause2) .ensures ∙ rw ((c .before .place2) .ensures) (ap (advanced st (a .start) L) (sym e)))
+returns-5 c = let a = (c .before .before .before .before .before .before .before .before .before .before .before .before .before .args) in let st = a .state in let L = (c .before .before .before .before .before .before .before .line) .result in let k : (c .before .before .before .before .before .before .before .before .before .if1) .known ≡ min ((c .before .before .before .before .before .before .before .before .before .before .before .before .before .args) .state .symbols) (length ((c .before .before .before .before .before .before .before .before .before .before .before .before .before .args) .state .counts)) = ⊎-elim (λ w. omega arith) (λ w. omega arith) ((c .before .before .before .before .before .before .before .before .before .if1) .came) in let z : (c .before .before .before .before .before .failure) .result ≡ 0 = omega (arith, (c .before .before .before .before .if2) .left) in let e : L .form ≡ By = c .before .before .enum-told4 .given .1 in went-on st (now (a .text)) (a .start) (held (st .counts) (st .symbols) ((c .before .before .before .before .before .before .before .before .before .if1) .known) k) ((c .before .before .before .before .before .before .before .line) .ensures) ((c .before .before .before .before .before .before .has-constant) .ensures) ((c .before .before .before .before .before .failure) .ensures) z (ap isBy (sym e)) ((c .add-clause2) .ensures ∙ rw ((c .before .place2) .ensures) (ap (advanced st (a .start) L) (sym e)))
 
 pub read-line-spec : {M : Type 1} → statement M
 read-line-spec =

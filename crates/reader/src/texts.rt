@@ -1,0 +1,61 @@
+// The text as a whole: its size, its lines and its parts.
+ghost use mathlib.Core.Path.{_≡_};
+ghost use lib.ListN.{drop};
+ghost use Rattle.reader.specs.Figures.{office};
+ghost use Rattle.reader.specs.Size.{lineEndAt, lineCount, tooLarge};
+
+// The place of the first line end at or after `at`, or the end of the text.
+pub fn line_end(text: &[u8], at: usize) -> usize
+    ensures { λ r. ⌜ r ≡ lineEndAt (now (text .entry)) at ⌝ }
+{
+    let n = text.len();
+    if at >= n {
+        return n;
+    }
+    let mut i = at;
+    while i < n {
+        if text[i] == 10 {
+            return i;
+        }
+        i += 1;
+    }
+    n
+}
+
+// The number of lines: the line ends, and one more for bytes after the last of them.
+fn lines(text: &[u8]) -> usize
+    ensures { λ r. ⌜ r ≡ lineCount (now (text .entry)) ⌝ }
+{
+    let mut count: usize = 0;
+    let mut begun = false;
+    let mut i = 0;
+    while i < text.len() {
+        if text[i] == 10 {
+            count += 1;
+            begun = false;
+        } else {
+            begun = true;
+        }
+        i += 1;
+    }
+    if begun { count + 1 } else { count }
+}
+
+// Check 1.
+pub fn too_large(text: &[u8]) -> bool
+    ensures { λ r. ⌜ r ≡ tooLarge office (now (text .entry)) ⌝ }
+{
+    if text.len() > 65535 {
+        return true;
+    }
+    lines(text) > 1024
+}
+
+// The part of the text from `start` on.
+pub fn clause_part(text: &[u8], start: usize) -> &[u8]
+    ensures { λ r. ⌜ now r ≡ drop start (now (text .entry)) ⌝ }
+{
+    let n = text.len();
+    let from = if start < n { start } else { n };
+    &text[from..]
+}
