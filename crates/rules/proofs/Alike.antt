@@ -192,7 +192,7 @@ module _ (f g : Filler) where
           weaken (along-agrees d agrees (length cs) (length ds) cs ds (omega arith)) (λ o r q. record {
             bytes = 40 ∷ q .bytes;
             first = fill-bracket f ps (apart f fh [] ps e) (suc d) (omega arith) v e ∙ rw (k, q .first);
-            second = fill-bracket g qs (apart g gh [] qs h) (suc d) (omega arith) w h ∙ rw (k, q .second)
+            second = fill-bracket g qs (apart g gh [] qs h) (suc d) (omega arith) w h ∙ rw (k, q .second);
           })
 
       second-agrees : strip variable ps ≡ bad → (x : Parsed (Unit {0})) → strip variable qs ≡ x → Goal (sameItem f g (suc d) ps qs)

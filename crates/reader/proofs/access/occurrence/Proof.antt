@@ -42,7 +42,7 @@ term-requires c κs = tt
 
 -- src/access.rt:299:21
 returns : tie.Need-returns Inv-loop μ-loop
-returns c = 
+returns c =
     let a = c .before .before .before .before .before .before .before .before .before .before .args in
     let l = c .before .before .before .before .before .before .loop in
     end-at (now (a .s)) (omega arith) (seek-here (now (a .s)) (l .i) (l .left) (l .level) (omega arith) (omega arith) (sym (c .before .if2 .taken) ∙ c .before .before .term .ensures) (omega arith)) ∙ sym (l .inv .1)
@@ -65,7 +65,7 @@ loop-less c = omega arith
 
 -- src/access.rt:294:5
 loop-again : tie.Need-loop-again Inv-loop μ-loop
-loop-again c = 
+loop-again c =
     let a = c .before .before .before .before .before .before .before .before .before .before .args in
     let l = c .before .before .before .before .before .before .loop in
     ((omega arith), l .inv .1 ∙ ap (endOf (now (a .s))) (seek-passed (now (a .s)) (l .i) (l .left) (l .level) (omega arith) (omega arith) (sym (c .before .if2 .taken) ∙ c .before .before .term .ensures) (omega arith)))
@@ -84,7 +84,7 @@ loop-less-2 c = omega arith
 
 -- src/access.rt:294:5
 loop-again-2 : tie.Need-loop-again-2 Inv-loop μ-loop
-loop-again-2 c = 
+loop-again-2 c =
     let a = c .before .before .before .before .before .before .before .before .before .args in
     let l = c .before .before .before .before .before .loop in
     ((omega arith), l .inv .1 ∙ ap (endOf (now (a .s))) (seek-deeper (now (a .s)) (l .i) (l .left) (l .level) (omega arith) (omega arith) (sym (c .if2 .left) ∙ c .before .term .ensures)))
@@ -99,7 +99,7 @@ add-result c = omega arith
 
 -- src/access.rt:312:21
 returns-2 : tie.Need-returns-2 Inv-loop μ-loop
-returns-2 c = 
+returns-2 c =
     let a = c .before .before .before .before .before .before .before .before .before .args in
     let l = c .before .before .before .before .before .loop in
     end-bad (now (a .s)) (seek-over (now (a .s)) (l .i) (l .left) (l .level) (omega arith) (omega arith) (omega arith) (omega arith)) ∙ sym (l .inv .1)
@@ -114,7 +114,7 @@ loop-less-3 c = omega arith
 
 -- src/access.rt:294:5
 loop-again-3 : tie.Need-loop-again-3 Inv-loop μ-loop
-loop-again-3 c = 
+loop-again-3 c =
     let a = c .before .before .before .before .before .before .before .before .before .args in
     let l = c .before .before .before .before .before .loop in
     ((omega arith), l .inv .1 ∙ ap (endOf (now (a .s))) (seek-out (now (a .s)) (l .i) (l .left) (l .level) (omega arith) (omega arith) (omega arith) (omega arith)))
@@ -125,7 +125,7 @@ loop-less-4 c = omega arith
 
 -- src/access.rt:294:5
 loop-again-4 : tie.Need-loop-again-4 Inv-loop μ-loop
-loop-again-4 c = 
+loop-again-4 c =
     let a = c .before .before .before .before .before .before .before .before .args in
     let l = c .before .before .before .before .loop in
     ((omega arith), l .inv .1 ∙ ap (endOf (now (a .s))) (seek-on (now (a .s)) (l .i) (l .left) (l .level) (omega arith) (omega arith) (omega arith)))
@@ -136,7 +136,7 @@ add-result-2 c = omega arith
 
 -- src/access.rt:288:1
 returns-3 : tie.Need-returns-3 Inv-loop μ-loop
-returns-3 c = 
+returns-3 c =
     let a = c .before .before .before .before .before .args in
     let l = c .before .loop in
     end-bad (now (a .s)) (seek-none (now (a .s)) (l .i) (l .left) (l .level) (omega arith)) ∙ sym (l .inv .1)
