@@ -1,0 +1,74 @@
+-- `answer::line` meets its contract: each variant's line, which fits 64 bytes.
+-- Assumes nothing.
+use Prim.Native.Nat.{ℕ, _+_, _≤_}
+use mathlib.Core.Path.{_≡_, refl, sym, ap, _∙_}
+use native.Mathlib.Omega.{arith}
+use lib.ListN.{length, take}
+use lib.Seq.{length-take-le}
+use borrow.Author.Needs.{needs}
+use Rattle.verdict.specs.Answer.{word, numbers}
+use Rattle.answer.specs.Line.{written}
+use Rattle.answer.proofs.line.Statement.{statement}
+use Rattle.answer.proofs.line.Tie as tie
+
+enum-known-v : tie.Need-enum-known-v
+enum-known-v c = search needs
+
+slice-aggregate-put-two : tie.Need-slice-aggregate-put-two
+slice-aggregate-put-two c = search needs
+
+put-two-requires : tie.Need-put-two-requires
+put-two-requires c κs = search needs
+
+enum-known-v-2 : tie.Need-enum-known-v-2
+enum-known-v-2 c = search needs
+
+slice-aggregate-put-one : tie.Need-slice-aggregate-put-one
+slice-aggregate-put-one c = search needs
+
+put-one-requires : tie.Need-put-one-requires
+put-one-requires c κs = search needs
+
+enum-known-v-3 : tie.Need-enum-known-v-3
+enum-known-v-3 c = search needs
+
+slice-aggregate-put-two-2 : tie.Need-slice-aggregate-put-two-2
+slice-aggregate-put-two-2 c = search needs
+
+put-two-requires-2 : tie.Need-put-two-requires-2
+put-two-requires-2 c κs = search needs
+
+returns : tie.Need-returns
+unfolding written word numbers
+returns c =
+    let within : c .put-two .result ≤ length (c .put-two .last .1 .1 .1 .0) = omega arith in
+    ((within, sym (length-take-le _ _ within)), c .put-two .ensures .1 ∙ ap written (sym (c .before .before .before .before .v .given .1)))
+
+returns-2 : tie.Need-returns-2
+unfolding written word numbers
+returns-2 c =
+    let within : c .put-one .result ≤ length (c .put-one .last .1 .1 .0) = omega arith in
+    ((within, sym (length-take-le _ _ within)), c .put-one .ensures .1 ∙ ap written (sym (c .before .before .before .before .v2 .given .1)))
+
+returns-3 : tie.Need-returns-3
+unfolding written word numbers
+returns-3 c =
+    let within : c .put-two2 .result ≤ length (c .put-two2 .last .1 .1 .1 .0) = omega arith in
+    ((within, sym (length-take-le _ _ within)), c .put-two2 .ensures .1 ∙ ap written (sym (c .before .before .before .before .v3 .given .1)))
+
+pub line-spec : {M : Type 1} → statement M
+line-spec =
+    tie.close
+    (tie.spec
+    enum-known-v
+    slice-aggregate-put-two
+    put-two-requires
+    enum-known-v-2
+    slice-aggregate-put-one
+    put-one-requires
+    enum-known-v-3
+    slice-aggregate-put-two-2
+    put-two-requires-2
+    returns
+    returns-2
+    returns-3)
