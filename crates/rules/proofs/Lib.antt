@@ -4,3 +4,6 @@ pub mod Answers
 pub mod Expected
 pub mod Sameness
 pub mod Alike
+pub mod Holes
+pub mod Finding
+pub mod Occurring
