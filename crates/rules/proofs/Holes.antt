@@ -162,13 +162,13 @@ stack-least D (suc d) = omega (arith, stack-least D d)
 mutual
   unfolding stack
 
-  within-stack : (P : ℕ → Type 0) (D : ℕ) (t : Tree) (d : ℕ) → Within P t d → Within P t (stack D d)
+  pub within-stack : (P : ℕ → Type 0) (D : ℕ) (t : Tree) (d : ℕ) → Within P t d → Within P t (stack D d)
   within-stack P D (var n) zero w = absurd w
   within-stack P D (var n) (suc d) w = w
   within-stack P D (node ts) zero w = absurd w
   within-stack P D (node ts) (suc d) w = within-in-stack P D ts d w
 
-  within-in-stack : (P : ℕ → Type 0) (D : ℕ) (ts : Trees) (d : ℕ) → WithinIn P ts d → WithinIn P ts (stack D d)
+  pub within-in-stack : (P : ℕ → Type 0) (D : ℕ) (ts : Trees) (d : ℕ) → WithinIn P ts d → WithinIn P ts (stack D d)
   within-in-stack P D end d w = tt
   within-in-stack P D (byte b ts) d w = within-in-stack P D ts d w
   within-in-stack P D (part t ts) d w = (within-stack P D t d (w .0), within-in-stack P D ts d (w .1))
@@ -179,16 +179,16 @@ pub record Held (f : Filler) (d : ℕ) (t s x : Tree) (w : Writer) (rest : List 
   pub inside : length (putTree s (w rest)) ≤ length (putTree t rest)
   pub filled : f .hole ≡ length (putTree s (w rest)) → fillItem f d (putTree t rest) ≡ got (putTree x []) rest
 
-record HeldIn (f : Filler) (d : ℕ) (ts x : Trees) (s : Tree) (w : Writer) (rest : List ℕ) : Type 0 where
-  longer : length rest < length (putTree s (w rest))
-  inside : length (putTree s (w rest)) ≤ length (putInside ts rest)
-  filled : (m : ℕ) (more : List ℕ) → rest ≡ 41 ∷ more → length (putInside ts rest) ≤ m → f .hole ≡ length (putTree s (w rest)) → insideUpTo (fillItem f d) m (putInside ts rest) ≡ got (putInside x (41 ∷ [])) more
+pub record HeldIn (f : Filler) (d : ℕ) (ts x : Trees) (s : Tree) (w : Writer) (rest : List ℕ) : Type 0 where
+  pub longer : length rest < length (putTree s (w rest))
+  pub inside : length (putTree s (w rest)) ≤ length (putInside ts rest)
+  pub filled : (m : ℕ) (more : List ℕ) → rest ≡ 41 ∷ more → length (putInside ts rest) ≤ m → f .hole ≡ length (putTree s (w rest)) → insideUpTo (fillItem f d) m (putInside ts rest) ≡ got (putInside x (41 ∷ [])) more
 
 abbrev pub Good : Filler → ℕ → Tree → Found Tree → Type 0
 Good f d t (past k) = Unit {0}
 Good f d t (found s w x) = (rest : List ℕ) → Held f d t s x w rest
 
-abbrev GoodIn : Filler → ℕ → Trees → Found Trees → Type 0
+abbrev pub GoodIn : Filler → ℕ → Trees → Found Trees → Type 0
 GoodIn f d ts (past k) = Unit {0}
 GoodIn f d ts (found s w x) = (rest : List ℕ) → HeldIn f d ts x s w rest
 
@@ -200,11 +200,11 @@ module _ (f : Filler) (σ : ℕ → Tree) (P : ℕ → Type 0) (formed : (n : �
       let k : suc (stack D d) - 1 ≡ stack D d = omega arith in
       fill-hole f (suc (stack D d)) (putTree t rest) (omega arith) (sym e) ∙ rw (k, skip-tree t c rest, new (stack D d) (stack-least D d) .1)
 
-  whole-held : (t : Tree) → Clean t → (d : ℕ) (rest : List ℕ) → Held f (suc (stack D d)) t t u (λ r. r) rest
+  pub whole-held : (t : Tree) → Clean t → (d : ℕ) (rest : List ℕ) → Held f (suc (stack D d)) t t u (λ r. r) rest
   whole-held t c d rest = record { longer = tree-longer t rest; inside = omega arith; filled = whole-hole t c d rest }
 
   -- A bracket with the hole inside.
-  node-held : (ts : Trees) → Clean (node ts) → (d : ℕ) (x : Found Trees) → GoodIn f (stack D d) ts x → Good f (suc (stack D d)) (node ts) (mapFound node (λ r. 41 ∷ r) x)
+  pub node-held : (ts : Trees) → Clean (node ts) → (d : ℕ) (x : Found Trees) → GoodIn f (stack D d) ts x → Good f (suc (stack D d)) (node ts) (mapFound node (λ r. 41 ∷ r) x)
   unfolding mapFound putTree strip inside front
   node-held ts c d (past j) g = tt
   node-held ts c d (found s w x) g = λ rest.
@@ -216,7 +216,7 @@ module _ (f : Filler) (σ : ℕ → Tree) (P : ℕ → Type 0) (formed : (n : �
         filled = λ e. fill-bracket f (40 ∷ putInside ts (41 ∷ rest)) (λ o. omega (arith, h .inside)) (suc (stack D d)) (omega arith) (no-variable ts c rest) refl ∙ rw (k, h .filled (length (putInside ts (41 ∷ rest))) rest refl (omega arith) e);
       }
 
-  byte-held : (b : ℕ) (ts : Trees) → T (inner b) → (d : ℕ) (x : Found Trees) → GoodIn f d ts x → GoodIn f d (byte b ts) (mapFound (byte b) (λ r. r) x)
+  pub byte-held : (b : ℕ) (ts : Trees) → T (inner b) → (d : ℕ) (x : Found Trees) → GoodIn f d ts x → GoodIn f d (byte b ts) (mapFound (byte b) (λ r. r) x)
   unfolding mapFound putInside front
   byte-held b ts h d (past j) g = tt
   byte-held b ts h d (found s w x) g = λ rest. record { longer = g rest .longer; inside = omega (arith, g rest .inside); filled = go rest }
@@ -229,7 +229,7 @@ module _ (f : Filler) (σ : ℕ → Tree) (P : ℕ → Type 0) (formed : (n : �
 
   module _ (t : Tree) (ts : Trees) (ct : Clean t) (cs : CleanIn ts) (d : ℕ) (wt : Within P t (stack D d)) (ws : WithinIn P ts (stack D d)) where
     -- found behind the first item
-    later-held : (y : Found Trees) → GoodIn f (stack D d) ts y → GoodIn f (stack D d) (part t ts) (mapFound (part (fillTree σ t)) (λ r. r) y)
+    pub later-held : (y : Found Trees) → GoodIn f (stack D d) ts y → GoodIn f (stack D d) (part t ts) (mapFound (part (fillTree σ t)) (λ r. r) y)
     unfolding mapFound putInside front
     later-held (past j) g = tt
     later-held (found s w x) g = λ rest. record { longer = g rest .longer; inside = omega (arith, g rest .inside, tree-longer t (putInside ts rest)); filled = go rest }
@@ -240,7 +240,7 @@ module _ (f : Filler) (σ : ℕ → Tree) (P : ℕ → Type 0) (formed : (n : �
             inside-part (fillItem f (stack D d)) m t (putInside ts rest)
             ∙ rw (fill-tree f σ P formed entry t (stack D d) ct wt (putInside ts rest) (after-it (omega (arith, g rest .inside))), g rest .filled m more e (omega (arith, tree-longer t (putInside ts rest))) o, tree-front (fillTree σ t) (putInside x (41 ∷ [])))
 
-    part-held : (x : Found Tree) → Good f (stack D d) t x → ((j : ℕ) → GoodIn f (stack D d) ts (findTrees σ u ts j)) → GoodIn f (stack D d) (part t ts) (turn x (fillTree σ t) (findTrees σ u ts) (fillTrees σ ts) (putInside ts) part)
+    pub part-held : (x : Found Tree) → Good f (stack D d) t x → ((j : ℕ) → GoodIn f (stack D d) ts (findTrees σ u ts j)) → GoodIn f (stack D d) (part t ts) (turn x (fillTree σ t) (findTrees σ u ts) (fillTrees σ ts) (putInside ts) part)
     unfolding turn putInside front
     part-held (past j) g h = later-held (findTrees σ u ts j) (h j)
     part-held (found s w x) g h = λ rest. record { longer = omega (arith, inside-grows ts rest, g (putInside ts rest) .longer); inside = g (putInside ts rest) .inside; filled = go rest }
@@ -266,7 +266,7 @@ module _ (f : Filler) (σ : ℕ → Tree) (P : ℕ → Type 0) (formed : (n : �
     hole-tree (node ts) zero (suc d) c w = onTest (Good f (suc (stack D d)) (node ts)) (applied ts) (λ _. whole-held (node ts) c d) (λ _. node-held ts c d (findTrees σ u ts zero) (hole-inside ts zero d (c .1) w))
     hole-tree (node ts) (suc k) (suc d) c w = node-held ts c d _ (onTest (GoodIn f (stack D d) ts) (applied ts) (λ _. hole-inside ts k d (c .1) w) (λ _. hole-inside ts (suc k) d (c .1) w))
 
-    hole-inside : (ts : Trees) (k d : ℕ) → CleanIn ts → WithinIn P ts d → GoodIn f (stack D d) ts (findTrees σ u ts k)
+    pub hole-inside : (ts : Trees) (k d : ℕ) → CleanIn ts → WithinIn P ts d → GoodIn f (stack D d) ts (findTrees σ u ts k)
     hole-inside end k d c w = tt
     hole-inside (byte b ts) k d c w = byte-held b ts (c .0) (stack D d) (findTrees σ u ts k) (hole-inside ts k d (c .1) w)
     hole-inside (part t ts) k d c w = part-held t ts (c .0) (c .1) d (within-stack P D t d (w .0)) (within-in-stack P D ts d (w .1)) (findTree σ u t k) (hole-tree t k d (c .0) (w .0)) (λ j. hole-inside ts j d (c .1) (w .1))

@@ -7,3 +7,6 @@ pub mod Alike
 pub mod Holes
 pub mod Finding
 pub mod Occurring
+pub mod Spots
+pub mod Placed
+pub mod Uses
