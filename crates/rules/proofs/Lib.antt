@@ -16,4 +16,4 @@ pub mod Finding
 pub mod Occurring
 pub mod Spots
 pub mod Placed
-pub mod Uses
+pub mod LineLists
