@@ -79,7 +79,7 @@ pub fn rewritten(
     let found = expect(
         p,
         at,
-        DEPTH,
+        HOLE_DEPTH,
         line,
         starts,
         hole,
