@@ -1,8 +1,8 @@
 -- The chains of arguments, results, atoms and literals.
-use Prim.Native.Nat.{ℕ, zero, suc, _+_, _≤_, _<_, max}
+use Prim.Native.Nat.{ℕ, _+_, _≤_, _<_, max}
 use Prim.Native.String.{String}
 use mathlib.Core.Path.{_≡_, refl, sym, _∙_, ap}
-use mathlib.Core.Bool.{Bool, true, false, _&&_, cond}
+use mathlib.Core.Bool.{true, false, _&&_}
 use mathlib.Core.List.{List, [], _∷_, _++_}
 use native.Mathlib.Omega.{arith}
 use native.Mathlib.Numerals.{add-one}
@@ -19,8 +19,7 @@ use Rattle.reader.specs.declared.tables.LinkAt.{LinkAt}
 use Rattle.reader.specs.declared.tables.ArrowAt.{ArrowAt}
 use Rattle.reader.specs.declared.tables.SignAt.{SignAt}
 use Rattle.reader.specs.Words.{bytes, signWord, signs, linkWord, links, arrowWord, arrows}
-use Rattle.reader.specs.Write.{putTerms}
-use Rattle.reader.specs.Read.{Parsed, bad, got, Reader, after, return, fail, strip, skip, Branch, _⇒_, orElse, oneOf, each, readMany, readItems, readTerms, readTerm, readArguments, readResult, readLink, readObject, readMethod, readKind, readAtom, readSign, readLiteral}
+use Rattle.reader.specs.Read.{Parsed, bad, got, Reader, after, return, strip, skip, Branch, _⇒_, orElse, oneOf, each, readTerms, readTerm, readArguments, readResult, readLink, readObject, readMethod, readKind, readAtom, readSign, readLiteral}
 use Rattle.reader.specs.Places.{endOf, readOr}
 use Rattle.reader.specs.Tables.{readLinkWord, readArrowWord, linkAt, arrowAt, signAt}
 use Rattle.reader.specs.Summary.{empty, joined, counted, summary, settled, termMeasure, termsMeasure, resultMeasure, atomOf, argumentCount, atomMeasure, literalMeasure}

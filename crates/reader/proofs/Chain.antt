@@ -1,17 +1,16 @@
 -- Reading part after part at places of a text: if nothing is read at one, then nothing at the end.
 use Prim.Native.Nat.{ℕ, _+_, _-_, _≤_, _<_}
 use Prim.Native.String.{String}
-use mathlib.Core.Path.{_≡_, refl, sym, _∙_, ap, subst}
+use mathlib.Core.Path.{_≡_, refl, sym, _∙_, ap}
 use mathlib.Core.List.{List, [], _∷_, _++_}
 use native.Mathlib.Omega.{arith}
 use native.Mathlib.Decide.{decLe}
 use lib.ListN.{length, drop, length-drop, length-append}
-use lib.Seq.{drop-at, drop-drop, drop-nil}
-use Rattle.reader.specs.Words.{bytes}
+use lib.Seq.{drop-at, drop-drop}
 use Rattle.reader.specs.Write.{Writer}
 use Rattle.reader.specs.Read.{Parsed, bad, got, Reader, after, strip, skip, Branch, _⇒_, orElse, oneOf}
 use Rattle.reader.specs.Places.{endOf}
-use Rattle.reader.proofs.Gives.{Gives, nothing, gives, weaken, Sound, strip-gives}
+use Rattle.reader.proofs.Gives.{Gives, gives, weaken, Sound, strip-gives}
 use Rattle.reader.proofs.Plain.{Plain}
 use Rattle.reader.proofs.Places.{past}
 

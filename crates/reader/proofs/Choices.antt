@@ -1,8 +1,8 @@
 -- Words of a table, tried one after the other.
 use Prim.Native.Nat.{ℕ, _+_, _-_, _≤_, _<_}
 use Prim.Native.String.{String}
-use mathlib.Core.Path.{_≡_, refl, sym, _∙_, ap}
-use mathlib.Core.Bool.{true, false, cond}
+use mathlib.Core.Path.{_≡_, refl, _∙_}
+use mathlib.Core.Bool.{cond}
 use mathlib.Core.List.{List, [], _∷_, _++_}
 use native.Mathlib.Omega.{arith}
 use borrow.Author.Tests.{le-leb, lt-leb}
@@ -16,7 +16,7 @@ use Rattle.reader.specs.declared.tables.LinkAt.{LinkAt}
 use Rattle.reader.specs.declared.tables.ArrowAt.{ArrowAt}
 use Rattle.reader.specs.declared.tables.RuleAt.{RuleAt}
 use Rattle.reader.specs.Words.{signWord, linkWord, arrowWord, ruleWord}
-use Rattle.reader.specs.Read.{Parsed, bad, got, Reader, after, return, skip, Branch, _⇒_, orElse, oneOf, each, readSign}
+use Rattle.reader.specs.Read.{Parsed, bad, got, Reader, after, return, skip, _⇒_, orElse, oneOf, each, readSign}
 use Rattle.reader.specs.Places.{endOf, readOr}
 use Rattle.reader.specs.Tables.{signAt, orLink, orArrow, orRule}
 use Rattle.reader.proofs.Places.{end-at}

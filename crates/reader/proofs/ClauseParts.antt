@@ -2,11 +2,11 @@
 use Prim.Native.Nat.{ℕ, suc}
 use mathlib.Core.Path.{_≡_, refl}
 use mathlib.Core.List.{List, [], _∷_}
-use lib.ListN.{length, drop}
+use lib.ListN.{drop}
 use Rattle.logic.specs.Syntax.{Literal, lit, Clause}
-use Rattle.logic.specs.Each.{eachAtom, eachClause, width}
+use Rattle.logic.specs.Each.{eachClause, width}
 use Rattle.reader.specs.Words.{bytes}
-use Rattle.reader.specs.Read.{bad, strip, readItems, readMany, readTerm, readTerms, readLiteral, readClause, readLet}
+use Rattle.reader.specs.Read.{strip, readItems, readMany, readTerm, readTerms, readLiteral, readClause, readLet}
 use Rattle.reader.specs.Places.{endOf}
 use Rattle.reader.specs.Summary.{empty, joined, counted, mostArguments, atomMeasure, literalMeasure, clauseMeasure}
 use Rattle.reader.proofs.Plain.{clause-plain, let-plain}

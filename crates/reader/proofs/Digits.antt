@@ -1,18 +1,16 @@
 -- A number, read digit by digit at a place of a text.
 use Prim.Native.Nat.{ℕ, _+_, _*_, _-_, _≤_, _<_}
-use mathlib.Core.Path.{_≡_, refl, sym, subst}
-use mathlib.Core.Bool.{Bool, true, false}
+use mathlib.Core.Path.{_≡_, sym, subst}
+use mathlib.Core.Bool.{true, false}
 use mathlib.Core.List.{List}
-use native.Mathlib.Omega.{arith}
 use lib.Dec.{T, leb→le}
 use lib.ListN.{length, getD, drop}
 use Rattle.reader.specs.Kinds.{kindOf}
-use Rattle.reader.specs.Read.{Parsed, bad, got, digit, goesOn, readDigits, readNumber}
-use Rattle.reader.specs.Places.{endOf, readOr, numberAt}
-use Rattle.reader.specs.declared.numbers.NumberAt.{NumberAt}
+use Rattle.reader.specs.Read.{Parsed, bad, got, goesOn, readDigits, readNumber}
+use Rattle.reader.specs.Places.{endOf, numberAt}
 use Rattle.reader.proofs.Tests.{T-and}
 use Rattle.reader.proofs.KindTable.{is-digit, no-digit}
-use Rattle.reader.proofs.Places.{at-byte, past, end-at, end-bad}
+use Rattle.reader.proofs.Places.{at-byte, past, end-at}
 
 pub number-bad : (s : List ℕ) {p : Parsed ℕ} → p ≡ bad → record { end = length s + 1; value = 0 } ≡ numberAt s p
 unfolding endOf

@@ -1,29 +1,28 @@
 -- The state that the code holds represents the state of the definitions, line after line.
-use Prim.Native.Nat.{ℕ, suc, _+_, _-_, _≤_, _<_}
+use Prim.Native.Nat.{ℕ, _+_, _-_, _≤_, _<_}
 use mathlib.Core.Path.{_≡_, refl, sym, _∙_, ap}
-use mathlib.Core.Bool.{Bool, true, false, cond, _&&_}
+use mathlib.Core.Bool.{Bool, true, false, _&&_}
 use mathlib.Core.List.{List, [], _∷_, _++_, map, map-append, append-assoc, append-nil}
 use native.Mathlib.Omega.{arith}
 use native.Mathlib.Decide.{ℕ-discrete}
 use native.Mathlib.Numerals.{add-one}
 use borrow.Author.Tests.{eq-eqb, ne-eqb, lt-ltb, le-leb}
 use lib.Dec.{T, leb, ltb, eqb, eqb·suc-zero}
-use lib.ListN.{length, getD, take, drop, set, length-append, length-set, length-drop, List·getD-append}
+use lib.ListN.{length, getD, drop, set, length-append, length-set, length-drop, List·getD-append}
 use lib.Seq.{take-suc-set, getD-set-same, getD-set-other, getD-append-seam, drop-drop, drop-append-le}
-use Rattle.logic.specs.Syntax.{Clause, Step, Line, input, by}
+use Rattle.logic.specs.Syntax.{Clause, Step, input, by}
 use Rattle.logic.specs.Syntax as syntax
 use Rattle.logic.specs.Each.{any, declares, eachTerms, eachClause}
 use Rattle.reader.specs.declared.states.State as code
 use Rattle.reader.specs.declared.states.Read.{Read}
-use Rattle.reader.specs.declared.forms.Form.the-variants.{Sym, Input, By}
 use Rattle.reader.specs.declared.forms.LineAt.{LineAt}
-use Rattle.reader.specs.Write.{word, putClause}
+use Rattle.reader.specs.Write.{putClause}
 use Rattle.reader.specs.Read.{Reading, form, noForm, readLine}
 use Rattle.reader.specs.Figures.{office}
-use Rattle.reader.specs.State.{State, fresh, claimOf, clauses, advance, isEmpty, ordered, hasConstant, constantReady, clauseFits, listFits, withinLimits, symbolsDeclared, lineFailure, after}
+use Rattle.reader.specs.State.{State, fresh, claimOf, clauses, advance, isEmpty, ordered, hasConstant, constantReady, withinLimits, symbolsDeclared, lineFailure, after}
 use Rattle.reader.specs.Summary.{joined, termsMeasure, clauseMeasure}
 use Rattle.reader.specs.LineAt.{fromClause, placeOf, stepMeasure, lineOf}
-use Rattle.reader.specs.ReadLine.{freshState, heldTable, lineFits, clauseFailure, failureIn, failureOf, placed, withSymbol, withClause, advanced, isBy, passed, readOn, readLineAt}
+use Rattle.reader.specs.ReadLine.{freshState, heldTable, clauseFailure, failureIn, failureOf, placed, withSymbol, withClause, advanced, isBy, passed, readOn, readLineAt}
 use Rattle.reader.specs.Represents.{Stands, Represents, readFailure}
 use Rattle.reader.proofs.Tests.{onTest}
 use Rattle.reader.proofs.Plain.{clause-plain, in-front}

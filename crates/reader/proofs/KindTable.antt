@@ -9,7 +9,7 @@ use lib.ListN.{length, getD, replicate}
 use Rattle.reader.specs.Kinds.{between, kindOf}
 use Rattle.reader.specs.Read.{digit}
 use Rattle.reader.proofs.Tests.{T-and}
-use Rattle.reader.proofs.Table.{every, at}
+use Rattle.reader.proofs.Table.{at}
 
 abbrev pub right : ℕ → ℕ → Bool
 right k x = eqb x (kindOf k)

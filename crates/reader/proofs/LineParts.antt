@@ -18,7 +18,7 @@ use Rattle.reader.specs.declared.forms.Form.the-variants.{NoForm, Sym, I
 use Rattle.reader.specs.declared.forms.LineAt.{LineAt}
 use Rattle.reader.specs.Words.{bytes, ruleWord, rules}
 use Rattle.reader.specs.Write.{Writer, _∘_, word, putNumber, putClause, putLet, putStep, putLine, writeLine}
-use Rattle.reader.specs.Read.{Parsed, bad, got, Reader, after, return, strip, _⇒_, oneOf, readNumber, readClause, readLet, readRule, readSym, readInput, readStep, readForm, Reading, form, noForm, whole, readLine}
+use Rattle.reader.specs.Read.{Parsed, bad, got, Reader, after, strip, _⇒_, oneOf, readNumber, readClause, readLet, readRule, readSym, readInput, readStep, readForm, form, whole, readLine}
 use Rattle.reader.specs.Places.{endOf, readOr, numberAt}
 use Rattle.reader.specs.Tables.{ruleAt}
 use Rattle.reader.specs.Summary.{empty, joined, summary, termsMeasure, clauseMeasure}
@@ -28,7 +28,7 @@ use Rattle.reader.proofs.Number.{number-sound}
 use Rattle.reader.proofs.Plain.{Plain, _⨾_, plain, number-plain, rule-plain, let-plain}
 use Rattle.reader.proofs.Sound.{table-sound, clause-sound, let-sound, line-sound}
 use Rattle.reader.proofs.Places.{at-byte, past}
-use Rattle.reader.proofs.Chain.{Stops, stops, word-stops, Track, lost, found, look, onward, lose, losing, handed, hit, miss, first-word, later-word, last-word}
+use Rattle.reader.proofs.Chain.{Stops, stops, word-stops, Track, lost, found, onward, lose, losing, handed, hit, miss, first-word, later-word, last-word}
 use Rattle.reader.proofs.Measuring.{ending, measuring, number-end, number-value}
 use Rattle.reader.proofs.Loop.{after-after}
 use Rattle.reader.proofs.Parts.{number-stops}

@@ -1,21 +1,21 @@
 -- Summaries of what is read at a place.
-use Prim.Native.Nat.{ℕ, zero, suc, _+_, _≤_, _<_, max}
-use mathlib.Core.Path.{_≡_, refl, sym, _∙_, ap, subst}
+use Prim.Native.Nat.{ℕ, zero, suc, _+_, _≤_, _<_}
+use mathlib.Core.Path.{_≡_, refl, _∙_, ap}
 use mathlib.Core.Bool.{Bool, true, false, _&&_}
 use mathlib.Core.List.{List, [], _∷_}
 use native.Mathlib.Omega.{arith}
 use borrow.Author.Tests.{le-leb, lt-leb}
 use lib.Dec.{T, eqb}
-use lib.ListN.{length, getD, drop}
+use lib.ListN.{length, getD}
 use Rattle.logic.specs.Each.{declares}
 use Rattle.reader.specs.declared.numbers.NumberAt.{NumberAt}
 use Rattle.reader.specs.declared.summaries.Measure.{Measure}
 use Rattle.reader.specs.declared.summaries.Summary.{Summary}
 use Rattle.reader.specs.Form.{formedNumber}
-use Rattle.reader.specs.Read.{Parsed, bad, got, readNumber}
+use Rattle.reader.specs.Read.{Parsed, got, readNumber}
 use Rattle.reader.specs.Places.{endOf, readOr, numberAt}
-use Rattle.reader.specs.Summary.{empty, joined, counted, summary, settled}
-use Rattle.reader.proofs.Gives.{Gives, nothing, gives, weaken}
+use Rattle.reader.specs.Summary.{empty, summary, settled}
+use Rattle.reader.proofs.Gives.{Gives, nothing, gives}
 use Rattle.reader.proofs.Number.{number-sound, bounded}
 use Rattle.reader.proofs.Places.{end-at}
 use Rattle.reader.proofs.Chain.{Track, lost, found}

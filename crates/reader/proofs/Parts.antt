@@ -1,6 +1,6 @@
 -- The readers that stop, and the chain of each part.
 use Prim.Native.Nat.{ℕ, zero, suc, _+_, _-_, _≤_, _<_}
-use mathlib.Core.Path.{_≡_, refl, sym, _∙_, ap}
+use mathlib.Core.Path.{_≡_, refl, _∙_, ap}
 use mathlib.Core.Bool.{true}
 use mathlib.Core.List.{List, [], _∷_}
 use native.Mathlib.Omega.{arith}
@@ -8,13 +8,13 @@ use native.Mathlib.Numerals.{add-one}
 use lib.ListN.{length, drop, length-drop}
 use Rattle.logic.specs.Syntax.{Term, var, app, Terms, nil, cons}
 use Rattle.logic.specs.Terms.{count}
-use Rattle.logic.specs.Each.{any, declares, eachTerm, eachTerms, termWidth, termsWidth}
+use Rattle.logic.specs.Each.{eachTerm, eachTerms, termWidth, termsWidth}
 use Rattle.reader.specs.declared.numbers.NumberAt.{NumberAt}
 use Rattle.reader.specs.declared.summaries.Measure.{Measure}
 use Rattle.reader.specs.declared.summaries.Summary.{Summary}
 use Rattle.reader.specs.Words.{bytes}
 use Rattle.reader.specs.Write.{putTerms}
-use Rattle.reader.specs.Read.{Parsed, bad, got, strip, oneOf, readNumber, readItems, readMany, readTerms, readVariable, readApplied, readTerm}
+use Rattle.reader.specs.Read.{Parsed, bad, strip, oneOf, readNumber, readItems, readMany, readTerms, readVariable, readApplied, readTerm}
 use Rattle.reader.specs.Places.{endOf, readOr, numberAt}
 use Rattle.reader.specs.Summary.{empty, joined, counted, summary, settled, termMeasure, termsMeasure, appliedMeasure}
 use Rattle.reader.proofs.Gives.{Gives, nothing, gives}

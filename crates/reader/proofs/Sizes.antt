@@ -1,18 +1,17 @@
 -- Lines counted and found in a text.
-use Prim.Native.Nat.{ℕ, suc, _+_, _-_, _≤_, _<_}
-use mathlib.Core.Path.{_≡_, refl, sym, _∙_, ap}
-use mathlib.Core.Bool.{Bool, true, false, cond, _||_}
+use Prim.Native.Nat.{ℕ, suc, _+_, _≤_, _<_}
+use mathlib.Core.Path.{_≡_, refl, _∙_, ap}
+use mathlib.Core.Bool.{Bool, true, false, cond}
 use mathlib.Core.List.{List, [], _∷_, _++_}
 use native.Mathlib.Omega.{arith}
-use borrow.Author.Tests.{lt-ltb, le-ltb, eq-eqb, ne-eqb}
-use lib.Dec.{T, ltb, eqb, eqb→eq, T-not}
+use borrow.Author.Tests.{eq-eqb, ne-eqb}
+use lib.Dec.{T, eqb, eqb→eq}
 use lib.ListN.{length, getD, take, drop}
 use lib.Seq.{take-all}
 use native.Mathlib.Nat.{suc-add}
 use Rattle.reader.specs.Words.{lineEnd}
 use Rattle.reader.specs.Split.{Raw, ended, unended, push, split}
-use Rattle.reader.specs.Figures.{office}
-use Rattle.reader.specs.Size.{lineLength, lineEndAt, lineCount, tooLarge}
+use Rattle.reader.specs.Size.{lineLength}
 use Rattle.reader.proofs.Tests.{T-and, onTest}
 use Rattle.reader.proofs.Plain.{unbroken}
 use Rattle.reader.proofs.Places.{at-byte, past}

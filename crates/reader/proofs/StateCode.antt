@@ -1,6 +1,6 @@
 -- The code of the reading state: its tests as the definitions have them.
 use Prim.Native.Nat.{ℕ, _+_, _≤_, _<_, min}
-use mathlib.Core.Path.{_≡_, refl, sym, _∙_, ap}
+use mathlib.Core.Path.{_≡_, sym, _∙_, ap}
 use mathlib.Core.Bool.{Bool, true, false, cond, _&&_}
 use lib.Dec.{T, leb, ltb, eqb, leb→le, ltb→lt, eqb→eq}
 use mathlib.Core.List.{List}
@@ -15,7 +15,6 @@ use Rattle.reader.specs.declared.forms.LineAt.{LineAt}
 use Rattle.reader.specs.LineAt.{lineOf}
 use Rattle.reader.specs.Read.{readLine}
 use Rattle.reader.specs.declared.states.State.{State}
-use Rattle.reader.specs.declared.states.Read.{Read}
 use Rattle.reader.specs.ReadLine.{heldTable, lineFits, clauseFailure, failureIn, failureOf, advanced, isBy, passed, readOn, readLineAt}
 use Rattle.reader.proofs.Tests.{T-and}
 use Rattle.reader.proofs.Places.{at-byte, past}

@@ -293,7 +293,7 @@ mutual
   within-more P (node ts) zero h = absurd h
   within-more P (node ts) (suc d) h = within-in-more P ts d h
 
-  within-in-more : (P : ℕ → Type 0) (ts : Trees) (d : ℕ) → WithinIn P ts d → WithinIn P ts (suc d)
+  pub within-in-more : (P : ℕ → Type 0) (ts : Trees) (d : ℕ) → WithinIn P ts d → WithinIn P ts (suc d)
   within-in-more P end d h = tt
   within-in-more P (byte b ts) d h = within-in-more P ts d h
   within-in-more P (part t ts) d h = (within-more P t d (h .0), within-in-more P ts d (h .1))

@@ -4,7 +4,6 @@ use mathlib.Core.Bool.{Bool, true, false, cond, _&&_}
 use mathlib.Core.List.{List}
 use lib.Dec.{leb, ltb, eqb}
 use lib.ListN.{take, set, replicate}
-use Rattle.reader.specs.declared.summaries.Measure.{Measure}
 use Rattle.reader.specs.declared.forms.Form.{Form}
 use Rattle.reader.specs.declared.forms.Form.the-variants.{NoForm, Sym, Input, By}
 use Rattle.reader.specs.declared.forms.LineAt.{LineAt}

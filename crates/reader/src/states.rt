@@ -8,6 +8,17 @@ ghost use Prim.Native.Nat.{_+_, _<_, _≤_};
 ghost use Rattle.reader.specs.State.{hasConstant};
 ghost use Rattle.reader.specs.ReadLine.{freshState, lineFits, clauseFailure, failureOf, placed, withSymbol, withClause, readLineAt};
 
+// The numbers of the checks.
+const FORM: usize = 2;
+
+const ORDER: usize = 3;
+
+const CONSTANT: usize = 4;
+
+const LIMIT: usize = 5;
+
+const SYMBOL: usize = 6;
+
 pub struct State {
     pub counts: [u8; 256],
     pub symbols: usize,
@@ -67,16 +78,16 @@ fn clause_failure(clauses: usize, ready: bool, l: LineAt) -> usize
     ensures { λ r. ⌜ r ≡ clauseFailure clauses ready l ⌝ }
 {
     if !ready {
-        return 4;
+        return CONSTANT;
     }
     if clauses >= 1024 {
-        return 5;
+        return LIMIT;
     }
     if !fits(l) {
-        return 5;
+        return LIMIT;
     }
     let m = l.measure;
-    if m.declared { 0 } else { 6 }
+    if m.declared { 0 } else { SYMBOL }
 }
 
 // Checks 2 to 6.
@@ -85,19 +96,19 @@ fn failure(symbols: usize, clauses: usize, inputs: usize, ready: bool, l: LineAt
 {
     let f = l.form;
     match f {
-        Form::NoForm => 2,
+        Form::NoForm => FORM,
         Form::Sym => {
             if clauses != 0 {
-                return 3;
+                return ORDER;
             }
             if symbols >= 256 {
-                return 5;
+                return LIMIT;
             }
-            if l.k <= 8 { 0 } else { 5 }
+            if l.k <= 8 { 0 } else { LIMIT }
         }
         Form::Input => {
             if clauses != inputs {
-                return 3;
+                return ORDER;
             }
             clause_failure(clauses, ready, l)
         }

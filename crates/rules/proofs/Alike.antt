@@ -46,7 +46,7 @@ variable-here : (n : ℕ) (rest : List ℕ) → strip (40 ∷ 118 ∷ 32 ∷ [])
 unfolding strip putTree
 variable-here n rest = refl
 
-no-variable : (ts : Trees) → Clean (node ts) → (rest : List ℕ) → strip (40 ∷ 118 ∷ 32 ∷ []) (putTree (node ts) rest) ≡ bad
+pub no-variable : (ts : Trees) → Clean (node ts) → (rest : List ℕ) → strip (40 ∷ 118 ∷ 32 ∷ []) (putTree (node ts) rest) ≡ bad
 unfolding strip putTree
 no-variable ts c rest = rw (not-variable ts (c .0) rest)
 

@@ -65,7 +65,7 @@ not-variable (byte b ts) o rest = rw (other b o)
 not-variable (part (var n) ts) o rest = refl
 not-variable (part (node us) ts) o rest = refl
 
-inside-part : (item : Reader (List ℕ)) (k : ℕ) (t : Tree) (rest : List ℕ) → insideUpTo item (suc k) (putTree t rest) ≡ after (item (putTree t rest)) (λ w left. front w (insideUpTo item k left))
+pub inside-part : (item : Reader (List ℕ)) (k : ℕ) (t : Tree) (rest : List ℕ) → insideUpTo item (suc k) (putTree t rest) ≡ after (item (putTree t rest)) (λ w left. front w (insideUpTo item k left))
 unfolding insideUpTo putTree
 inside-part item k (var n) rest = refl
 inside-part item k (node ts) rest = refl
@@ -134,7 +134,7 @@ module _ (σ : Substitution) where
   tree-arguments nil = refl
   tree-arguments (cons t ts) = rw (tree-term t, tree-terms ts)
 
-  tree-result : (r : Result) → fillTrees trees (treeResult r) ≡ treeResult (fillResult σ r)
+  pub tree-result : (r : Result) → fillTrees trees (treeResult r) ≡ treeResult (fillResult σ r)
   unfolding fillTrees treeResult fillResult
   tree-result (value t) = rw (tree-term t)
   tree-result none = fill-texts trees (bytes "none") end

@@ -11,3 +11,9 @@ pub mod Claimed
 pub mod Alike
 pub mod Agreed
 pub mod Answered
+pub mod Holes
+pub mod Finding
+pub mod Occurring
+pub mod Spots
+pub mod Placed
+pub mod LineLists

@@ -12,6 +12,10 @@ use Rattle.rules.specs.Shapes.{stripAt, skipAt}
 abbrev pub itemDepth : ℕ
 itemDepth = 19
 
+-- With a term in the hole, which the depth left falls for as well: 16 more.
+abbrev pub holeDepth : ℕ
+holeDepth = 35
+
 -- The item at `at` of p, filled by a list of the line, stands in the line: the place past it.
 unfoldable pub filledAt : List ℕ → ℕ → List ℕ → List ℕ → ℕ → ℕ
 filledAt p at line starts pos =
@@ -20,7 +24,7 @@ filledAt p at line starts pos =
 -- After a space, the literal at `at` of p, filled, with the item at `from` of q, filled by another list, in place of the item at `hole`.
 unfoldable pub rewrittenAt : List ℕ → ℕ → ℕ → List ℕ → List ℕ → List ℕ → ℕ → List ℕ → ℕ → ℕ
 rewrittenAt p at hole line starts q from others pos =
-    endsOf p line (matches (fillItem (replacing line starts (length p - hole) q from others) itemDepth (drop at p)) (drop (stripAt line (bytes " ") pos) line)) .pos
+    endsOf p line (matches (fillItem (replacing line starts (length p - hole) q from others) holeDepth (drop at p)) (drop (stripAt line (bytes " ") pos) line)) .pos
 
 -- A new literal of two terms: its head with the space in front, an item of p, a space, an item of q, and two closing brackets.
 unfoldable pub linkedAt : List ℕ → List ℕ → ℕ → List ℕ → List ℕ → List ℕ → ℕ → List ℕ → ℕ → ℕ

@@ -7,6 +7,8 @@ ghost use Rattle.rules.specs.Claims.{filledAt, rewrittenAt, keptAt, othe
 
 const DEPTH: usize = 19;
 
+const HOLE_DEPTH: usize = 35;
+
 // The item at `at` of p, filled.
 pub fn filled(p: &[u8], at: usize, line: &[u8], starts: &[usize], pos: usize) -> usize
     ensures { λ r. ⌜ r ≡ filledAt (now (p .entry)) at (now (line .entry)) (now (starts .entry)) pos ⌝ }
@@ -77,7 +79,7 @@ pub fn rewritten(
     let found = expect(
         p,
         at,
-        DEPTH,
+        HOLE_DEPTH,
         line,
         starts,
         hole,

@@ -1,61 +1,46 @@
-use Rattle.logic.specs.Syntax.{mayBeNone}
-use native.Mathlib.Omega.{arith}
 use borrow.Author.Needs.{needs}
+use Rattle.logic.specs.Syntax.{mayBeNone}
 use Rattle.reader.proofs.atoms.may_be_none.Statement.{statement}
 use Rattle.reader.proofs.atoms.may_be_none.Tie as tie
-use Rattle.reader.proofs.atoms.may_be_none.Reads as reads
-use Rattle.reader.proofs.atoms.may_be_none.Lts as lts
 
--- src/atoms.rt:42:22
 enum-told : tie.Need-enum-told
 enum-told c = search needs
 
--- src/atoms.rt:43:22
 enum-told-2 : tie.Need-enum-told-2
 enum-told-2 c = search needs
 
--- src/atoms.rt:44:22
 enum-told-3 : tie.Need-enum-told-3
 enum-told-3 c = search needs
 
--- src/atoms.rt:45:22
 enum-told-4 : tie.Need-enum-told-4
 enum-told-4 c = search needs
 
--- src/atoms.rt:46:22
 enum-told-5 : tie.Need-enum-told-5
 enum-told-5 c = search needs
 
--- src/atoms.rt:47:22
 enum-told-6 : tie.Need-enum-told-6
 enum-told-6 c = search needs
 
--- src/atoms.rt:38:1
 returns : tie.Need-returns
 unfolding mayBeNone
 returns c = cc
 
--- src/atoms.rt:38:1
 returns-2 : tie.Need-returns-2
 unfolding mayBeNone
 returns-2 c = cc
 
--- src/atoms.rt:38:1
 returns-3 : tie.Need-returns-3
 unfolding mayBeNone
 returns-3 c = cc
 
--- src/atoms.rt:38:1
 returns-4 : tie.Need-returns-4
 unfolding mayBeNone
 returns-4 c = cc
 
--- src/atoms.rt:38:1
 returns-5 : tie.Need-returns-5
 unfolding mayBeNone
 returns-5 c = cc
 
--- src/atoms.rt:38:1
 returns-6 : tie.Need-returns-6
 unfolding mayBeNone
 returns-6 c = cc

@@ -1,57 +1,37 @@
+use denote.Ref.{now}
+use mathlib.Core.Path.{refl, sym, _∙_, ap}
 use Rattle.reader.specs.Summary.{atomMeasure, summary}
 use Rattle.reader.proofs.AtomParts.{shape-link, shape-object, shape-method}
-use mathlib.Core.Path.{_≡_, refl, sym, _∙_, ap}
-use denote.Ref.{now}
-use native.Mathlib.Omega.{arith}
-use borrow.Author.Needs.{needs}
 use Rattle.reader.proofs.atoms.shape.Statement.{statement}
 use Rattle.reader.proofs.atoms.shape.Tie as tie
-use Rattle.reader.proofs.atoms.shape.Reads as reads
-use Rattle.reader.proofs.atoms.shape.Lts as lts
-use Rattle.reader.proofs.atoms.linked.Reads as linked-reads
-use Rattle.reader.proofs.atoms.method.Reads as method-reads
-use Rattle.reader.proofs.atoms.object.Reads as object-reads
-use Rattle.reader.proofs.tables.arrow.Reads as arrow-reads
-use Rattle.reader.proofs.tables.link.Reads as link-reads
-use Rattle.reader.proofs.words.word.Reads as word-reads
 
--- src/atoms.rt:115:9
 link-requires : tie.Need-link-requires
-link-requires c κs = search needs
+link-requires c κs = tt
 
--- src/atoms.rt:117:9
 linked-requires : tie.Need-linked-requires
-linked-requires c κs = search needs
+linked-requires c κs = tt
 
--- src/atoms.rt:117:9
 returns : tie.Need-returns
 returns c = let a = (c .before .before .before .before .before .before .args) in let s = now (a .s) in let table = now (a .table) in let q = shape-link table s (a .at) (a .depth) ((c .before .before .before .link) .ensures) ((c .before .if1) .taken) in (c .linked) .ensures (q .0) ∙ ap (summary (atomMeasure table) s) (sym (q .1))
 
--- src/atoms.rt:119:25
 slice-aggregate-word : tie.Need-slice-aggregate-word
-slice-aggregate-word c = search needs
+slice-aggregate-word c = refl
 
--- src/atoms.rt:119:9
 word-requires : tie.Need-word-requires
-word-requires c κs = search needs
+word-requires c κs = tt
 
--- src/atoms.rt:121:9
 object-requires : tie.Need-object-requires
-object-requires c κs = search needs
+object-requires c κs = tt
 
--- src/atoms.rt:121:9
 returns-2 : tie.Need-returns-2
 returns-2 c = let a = (c .before .before .before .before .before .before .before .before .before .args) in let s = now (a .s) in let table = now (a .table) in (c .object) .ensures ∙ ap (summary (atomMeasure table) s) (sym (shape-object table s (a .at) (a .depth) ((c .before .before .before .before .before .before .link) .ensures) ((c .before .before .before .before .if1) .left) ((c .before .before .word) .ensures) ((c .before .if2) .taken)))
 
--- src/atoms.rt:123:9
 arrow-requires : tie.Need-arrow-requires
-arrow-requires c κs = search needs
+arrow-requires c κs = tt
 
--- src/atoms.rt:125:5
 method-requires : tie.Need-method-requires
-method-requires c κs = search needs
+method-requires c κs = tt
 
--- src/atoms.rt:112:1
 returns-3 : tie.Need-returns-3
 returns-3 c = let a = (c .before .before .before .before .before .before .before .before .before .before .args) in let s = now (a .s) in let table = now (a .table) in (c .method) .ensures ∙ ap (summary (atomMeasure table) s) (sym (shape-method table s (a .at) (a .depth) ((c .before .before .before .before .before .before .before .link) .ensures) ((c .before .before .before .before .before .if1) .left) ((c .before .before .before .word) .ensures) ((c .before .before .if2) .left) ((c .before .arrow) .ensures)))
 

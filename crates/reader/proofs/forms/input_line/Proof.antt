@@ -1,48 +1,32 @@
-use Rattle.reader.proofs.LineParts.{line-whole, line-broken, input-track}
+use denote.Ref.{now}
+use mathlib.Core.Path.{refl, _∙_, ap}
 use Rattle.reader.specs.LineAt.{shortLine}
 use Rattle.reader.specs.declared.forms.Form.the-variants.{NoForm}
-use mathlib.Core.Path.{_≡_, refl, sym, _∙_, ap}
-use denote.Ref.{now}
-use native.Mathlib.Omega.{arith}
-use borrow.Author.Needs.{needs}
+use Rattle.reader.proofs.LineParts.{line-whole, line-broken, input-track}
 use Rattle.reader.proofs.forms.input_line.Statement.{statement}
 use Rattle.reader.proofs.forms.input_line.Tie as tie
-use Rattle.reader.proofs.forms.input_line.Reads as reads
-use Rattle.reader.proofs.forms.input_line.Lts as lts
-use Rattle.reader.proofs.clauses.clause.Reads as clause-reads
-use Rattle.reader.proofs.forms.short.Reads as short-reads
-use Rattle.reader.proofs.summaries.none.Reads as none-reads
-use Rattle.reader.proofs.words.word.Reads as word-reads
 
--- src/forms.rt:83:9
 clause-requires : tie.Need-clause-requires
-clause-requires c κs = search needs
+clause-requires c κs = tt
 
--- src/forms.rt:84:28
 slice-aggregate-word : tie.Need-slice-aggregate-word
-slice-aggregate-word c = search needs
+slice-aggregate-word c = refl
 
--- src/forms.rt:84:9
 word-requires : tie.Need-word-requires
-word-requires c κs = search needs
+word-requires c κs = tt
 
--- src/forms.rt:86:9
 short-requires : tie.Need-short-requires
-short-requires c κs = search needs
+short-requires c κs = tt
 
--- src/forms.rt:88:35
 none-requires : tie.Need-none-requires
-none-requires c κs = search needs
+none-requires c κs = tt
 
--- src/forms.rt:88:9
 short-requires-2 : tie.Need-short-requires-2
-short-requires-2 c κs = search needs
+short-requires-2 c κs = tt
 
--- src/forms.rt:80:1
 returns : tie.Need-returns
 returns c = let a = (c .before .before .before .before .before .before .before .args) in let s = now (a .s) in let table = now (a .table) in (c .short) .ensures ∙ line-whole table s (input-track table s (a .at) (a .depth) ((c .before .before .before .before .clause) .ensures) ((c .before .before .word) .ensures)) ((c .before .if1) .taken)
 
--- src/forms.rt:80:1
 returns-2 : tie.Need-returns-2
 returns-2 c = let a = (c .before .before .before .before .before .before .before .before .args) in let s = now (a .s) in let table = now (a .table) in (c .short2) .ensures ∙ ap (shortLine NoForm 0 0) ((c .before .none) .ensures) ∙ line-broken table s (input-track table s (a .at) (a .depth) ((c .before .before .before .before .before .clause) .ensures) ((c .before .before .before .word) .ensures)) ((c .before .before .if1) .left)
 

@@ -1,52 +1,35 @@
-use Rattle.reader.proofs.LineParts.{line-whole, line-broken, sym-track}
+use denote.Ref.{now}
+use mathlib.Core.Path.{refl, _∙_, ap}
 use Rattle.reader.specs.LineAt.{shortLine}
 use Rattle.reader.specs.declared.forms.Form.the-variants.{NoForm, Sym}
-use mathlib.Core.Path.{_≡_, refl, sym, _∙_, ap}
-use denote.Ref.{now}
-use native.Mathlib.Omega.{arith}
-use borrow.Author.Needs.{needs}
+use Rattle.reader.proofs.LineParts.{line-whole, line-broken, sym-track}
 use Rattle.reader.proofs.forms.sym_line.Statement.{statement}
 use Rattle.reader.proofs.forms.sym_line.Tie as tie
-use Rattle.reader.proofs.forms.sym_line.Reads as reads
-use Rattle.reader.proofs.forms.sym_line.Lts as lts
-use Rattle.reader.proofs.forms.short.Reads as short-reads
-use Rattle.reader.proofs.numbers.number.Reads as number-reads
-use Rattle.reader.proofs.summaries.none.Reads as none-reads
-use Rattle.reader.proofs.words.word.Reads as word-reads
 
--- src/forms.rt:70:9
 number-requires : tie.Need-number-requires
-number-requires c κs = search needs
+number-requires c κs = tt
 
--- src/forms.rt:71:28
 slice-aggregate-word : tie.Need-slice-aggregate-word
-slice-aggregate-word c = search needs
+slice-aggregate-word c = refl
 
--- src/forms.rt:71:9
 word-requires : tie.Need-word-requires
-word-requires c κs = search needs
+word-requires c κs = tt
 
--- src/forms.rt:73:38
 none-requires : tie.Need-none-requires
-none-requires c κs = search needs
+none-requires c κs = tt
 
--- src/forms.rt:73:9
 short-requires : tie.Need-short-requires
-short-requires c κs = search needs
+short-requires c κs = tt
 
--- src/forms.rt:75:35
 none-requires-2 : tie.Need-none-requires-2
-none-requires-2 c κs = search needs
+none-requires-2 c κs = tt
 
--- src/forms.rt:75:9
 short-requires-2 : tie.Need-short-requires-2
-short-requires-2 c κs = search needs
+short-requires-2 c κs = tt
 
--- src/forms.rt:67:1
 returns : tie.Need-returns
 returns c = let a = (c .before .before .before .before .before .before .before .before .args) in let s = now (a .s) in let table = now (a .table) in (c .short) .ensures ∙ ap (shortLine Sym _ 0) ((c .before .none) .ensures) ∙ line-whole table s (sym-track table s (a .at) ((c .before .before .before .before .before .number) .ensures) ((c .before .before .before .word) .ensures)) ((c .before .before .if1) .taken)
 
--- src/forms.rt:67:1
 returns-2 : tie.Need-returns-2
 returns-2 c = let a = (c .before .before .before .before .before .before .before .before .args) in let s = now (a .s) in let table = now (a .table) in (c .short2) .ensures ∙ ap (shortLine NoForm 0 0) ((c .before .none2) .ensures) ∙ line-broken table s (sym-track table s (a .at) ((c .before .before .before .before .before .number) .ensures) ((c .before .before .before .word) .ensures)) ((c .before .before .if1) .left)
 

@@ -1,21 +1,15 @@
+use Prim.Native.Nat.{_≤_, _-_}
 use borrow.Author.Tests.{not-true, not-false}
+use denote.Ref.{now}
+use lib.ListN.{getD, length, drop}
+use mathlib.Core.Path.{_≡_, refl, sym, _∙_}
+use native.Mathlib.Omega.{arith}
 use Rattle.reader.specs.Kinds.{kindOf}
-use lib.ListN.{getD}
+use Rattle.reader.specs.Read.{readDigits}
 use Rattle.reader.proofs.Digits.{number-bad, number-got, goes-far, digits-stop, digits-lost, digits-more, digits-end}
 use Rattle.reader.proofs.KindTable.{digit-range}
-use Rattle.reader.specs.Read.{readDigits}
-use lib.ListN.{length, drop}
-use mathlib.Core.Path.{_≡_, refl, sym, _∙_, ap}
-use Prim.Native.Nat.{_≤_, _-_}
-use denote.Ref.{now}
-use native.Mathlib.Omega.{arith}
-use borrow.Author.Needs.{needs}
 use Rattle.reader.proofs.numbers.digits.Statement.{statement}
 use Rattle.reader.proofs.numbers.digits.Tie as tie
-use Rattle.reader.proofs.numbers.digits.Reads as reads
-use Rattle.reader.proofs.numbers.digits.Lts as lts
-use Rattle.reader.proofs.kinds.kind.Reads as kind-reads
-use Rattle.reader.proofs.numbers.goes_on.Reads as goes-on-reads
 
 abbrev Inv-loop : tie.InvT-loop
 Inv-loop s at first n value₀ i₀ value i = (i ≤ length s) × (value ≤ 65535) × (readDigits first (drop at s) ≡ readDigits value (drop i s))
@@ -23,67 +17,51 @@ Inv-loop s at first n value₀ i₀ value i = (i ≤ length s) × (value ≤ 655
 abbrev μ-loop : tie.MeasureT-loop
 μ-loop s at first n value₀ i₀ value i = length s - i
 
--- src/numbers.rt:35:5
 loop-holds : tie.Need-loop-holds Inv-loop μ-loop
 loop-holds c = (omega arith, omega arith, refl)
 
--- src/numbers.rt:36:17
 shared-slice-read-kind : tie.Need-shared-slice-read-kind Inv-loop μ-loop
 shared-slice-read-kind c = omega arith
 
--- src/numbers.rt:36:12
 kind-requires : tie.Need-kind-requires Inv-loop μ-loop
 kind-requires c κs = tt
 
--- src/numbers.rt:37:13
 returns : tie.Need-returns Inv-loop μ-loop
 returns c = let l = c .before .before .before .before .loop in number-got _ (l .inv .0) (l .inv .2 ∙ digits-stop _ (l .value) (l .i) (omega arith) (λ e. c .if1 .taken (c .before .kind .ensures ∙ e)))
 
--- src/numbers.rt:39:20
 mul-next : tie.Need-mul-next Inv-loop μ-loop
 mul-next c = omega arith
 
--- src/numbers.rt:39:34
 shared-slice-read-next : tie.Need-shared-slice-read-next Inv-loop μ-loop
 shared-slice-read-next c = omega arith
 
--- src/numbers.rt:39:34
 sub-next : tie.Need-sub-next Inv-loop μ-loop
 sub-next c = let s = now (c .before .before .before .before .before .before .before .args .s) in let i = c .before .before .before .before .before .loop .i in let k : kindOf (getD s i 0) ≡ 0 = omega (arith, c .before .before .kind .ensures, c .before .if1 .left) in omega (arith, digit-range (getD s i 0) k)
 
--- src/numbers.rt:39:33
 cast-next : tie.Need-cast-next Inv-loop μ-loop
 cast-next c = let s = now (c .before .before .before .before .before .before .before .args .s) in let i = c .before .before .before .before .before .loop .i in let k : kindOf (getD s i 0) ≡ 0 = omega (arith, c .before .before .kind .ensures, c .before .if1 .left) in omega (arith, digit-range (getD s i 0) k)
 
--- src/numbers.rt:39:20
 add-next : tie.Need-add-next Inv-loop μ-loop
 add-next c = let s = now (c .before .before .before .before .before .before .before .args .s) in let i = c .before .before .before .before .before .loop .i in let k : kindOf (getD s i 0) ≡ 0 = omega (arith, c .before .before .kind .ensures, c .before .if1 .left) in omega (arith, digit-range (getD s i 0) k)
 
--- src/numbers.rt:40:13
 goes-on-requires : tie.Need-goes-on-requires Inv-loop μ-loop
 goes-on-requires c κs = omega arith
 
--- src/numbers.rt:41:36
 add-t16 : tie.Need-add-t16 Inv-loop μ-loop
 add-t16 c = omega arith
 
--- src/numbers.rt:41:13
 returns-2 : tie.Need-returns-2 Inv-loop μ-loop
 returns-2 c = let s = now (c .before .before .before .before .before .before .before .before .before .args .s) in let i = c .before .before .before .before .before .before .before .loop .i in let k : kindOf (getD s i 0) ≡ 0 = omega (arith, c .before .before .before .before .kind .ensures, c .before .before .before .if1 .left) in let l = c .before .before .before .before .before .before .before .loop in number-bad s (l .inv .2 ∙ digits-lost s (l .value) i (omega arith) k (sym (c .before .goes-on .ensures) ∙ not-true _ (c .if2 .taken)))
 
--- src/numbers.rt:44:9
 add-i : tie.Need-add-i Inv-loop μ-loop
 add-i c = omega arith
 
--- src/numbers.rt:35:5
 loop-less : tie.Need-loop-less Inv-loop μ-loop
 loop-less c = omega arith
 
--- src/numbers.rt:35:5
 loop-again : tie.Need-loop-again Inv-loop μ-loop
 loop-again c = let s = now (c .before .before .before .before .before .before .before .before .before .args .s) in let i = c .before .before .before .before .before .before .before .loop .i in let k : kindOf (getD s i 0) ≡ 0 = omega (arith, c .before .before .before .before .kind .ensures, c .before .before .before .if1 .left) in let l = c .before .before .before .before .before .before .before .loop in let g = sym (c .before .goes-on .ensures) ∙ not-false _ (c .if2 .left) in (omega arith, goes-far (l .value) _ g, l .inv .2 ∙ digits-more s (l .value) i (omega arith) k g)
 
--- src/numbers.rt:28:1
 returns-3 : tie.Need-returns-3 Inv-loop μ-loop
 returns-3 c = let l = c .before .loop in number-got _ (l .inv .0) (l .inv .2 ∙ digits-end _ (l .value) (l .i) (omega arith))
 

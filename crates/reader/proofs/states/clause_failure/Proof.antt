@@ -1,42 +1,29 @@
-use Rattle.reader.specs.ReadLine.{lineFits}
+use borrow.Author.Tests.{lt-ltb, le-ltb, not-true, not-false}
 use mathlib.Core.Bool.{true, false}
-use Rattle.reader.specs.ReadLine.{clauseFailure}
-use borrow.Author.Tests.{le-leb, lt-leb, lt-ltb, le-ltb, eq-eqb, ne-eqb, not-true, not-false}
-use mathlib.Core.Path.{_≡_, refl, sym, _∙_, ap}
-use denote.Ref.{now}
-use native.Mathlib.Omega.{arith}
-use borrow.Author.Needs.{needs}
+use mathlib.Core.Path.{_≡_, sym, _∙_}
+use Rattle.reader.specs.ReadLine.{lineFits, clauseFailure}
 use Rattle.reader.proofs.states.clause_failure.Statement.{statement}
 use Rattle.reader.proofs.states.clause_failure.Tie as tie
-use Rattle.reader.proofs.states.clause_failure.Reads as reads
-use Rattle.reader.proofs.states.clause_failure.Lts as lts
-use Rattle.reader.proofs.states.fits.Reads as fits-reads
 
--- src/states.rt:70:9
 returns : tie.Need-returns
 unfolding clauseFailure
 returns c = let a = (c .before .args) in let e : a .ready ≡ false = not-true _ ((c .if1) .taken) in rw e
 
--- src/states.rt:73:9
 returns-2 : tie.Need-returns-2
 unfolding clauseFailure
 returns-2 c = let a = (c .before .before .args) in let e : a .ready ≡ true = not-false _ ((c .before .if1) .left) in rw (e, le-ltb _ _ ((c .if2) .taken))
 
--- src/states.rt:75:9
 fits-requires : tie.Need-fits-requires
-fits-requires c κs = search needs
+fits-requires c κs = tt
 
--- src/states.rt:76:9
 returns-3 : tie.Need-returns-3
 unfolding clauseFailure
 returns-3 c = let a = (c .before .before .before .before .args) in let e : a .ready ≡ true = not-false _ ((c .before .before .before .if1) .left) in let f : lineFits (a .l) ≡ false = sym ((c .before .fits2) .ensures) ∙ not-true _ ((c .if3) .taken) in rw (e, lt-ltb _ _ ((c .before .before .if2) .left), f)
 
--- src/states.rt:66:1
 returns-4 : tie.Need-returns-4
 unfolding clauseFailure
 returns-4 c = let a = (c .before .before .before .before .before .before .args) in let e : a .ready ≡ true = not-false _ ((c .before .before .before .before .before .if1) .left) in let f : lineFits (a .l) ≡ true = sym ((c .before .before .before .fits2) .ensures) ∙ not-false _ ((c .before .before .if3) .left) in rw (e, lt-ltb _ _ ((c .before .before .before .before .if2) .left), f, (c .if4) .taken)
 
--- src/states.rt:66:1
 returns-5 : tie.Need-returns-5
 unfolding clauseFailure
 returns-5 c = let a = (c .before .before .before .before .before .before .args) in let e : a .ready ≡ true = not-false _ ((c .before .before .before .before .before .if1) .left) in let f : lineFits (a .l) ≡ true = sym ((c .before .before .before .fits2) .ensures) ∙ not-false _ ((c .before .before .if3) .left) in rw (e, lt-ltb _ _ ((c .before .before .before .before .if2) .left), f, (c .if4) .left)

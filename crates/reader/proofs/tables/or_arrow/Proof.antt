@@ -1,24 +1,15 @@
-use Rattle.reader.specs.Tables.{orArrow}
 use borrow.Author.Tests.{le-leb, lt-leb}
-use mathlib.Core.Path.{_≡_, refl}
-use native.Mathlib.Omega.{arith}
-use borrow.Author.Needs.{needs}
+use Rattle.reader.specs.Tables.{orArrow}
 use Rattle.reader.proofs.tables.or_arrow.Statement.{statement}
 use Rattle.reader.proofs.tables.or_arrow.Tie as tie
-use Rattle.reader.proofs.tables.or_arrow.Reads as reads
-use Rattle.reader.proofs.tables.or_arrow.Lts as lts
-use Rattle.reader.proofs.words.word.Reads as word-reads
 
--- src/tables.rt:57:9
 returns : tie.Need-returns
 unfolding orArrow
 returns c = rw (le-leb _ _ ((c .if1) .taken))
 
--- src/tables.rt:59:9
 word-requires : tie.Need-word-requires
-word-requires c κs = search needs
+word-requires c κs = tt
 
--- src/tables.rt:53:1
 returns-2 : tie.Need-returns-2
 unfolding orArrow
 returns-2 c = rw (lt-leb _ _ ((c .before .if1) .left), (c .word) .ensures)

@@ -1,34 +1,24 @@
-use Rattle.reader.proofs.Choices.{sign-first, sign-second}
 use denote.Ref.{now}
-use native.Mathlib.Omega.{arith}
-use borrow.Author.Needs.{needs}
+use mathlib.Core.Path.{refl}
+use Rattle.reader.proofs.Choices.{sign-first, sign-second}
 use Rattle.reader.proofs.tables.sign.Statement.{statement}
 use Rattle.reader.proofs.tables.sign.Tie as tie
-use Rattle.reader.proofs.tables.sign.Reads as reads
-use Rattle.reader.proofs.tables.sign.Lts as lts
-use Rattle.reader.proofs.words.word.Reads as word-reads
 
--- src/tables.rt:107:25
 slice-aggregate-word : tie.Need-slice-aggregate-word
-slice-aggregate-word c = search needs
+slice-aggregate-word c = refl
 
--- src/tables.rt:107:9
 word-requires : tie.Need-word-requires
-word-requires c κs = search needs
+word-requires c κs = tt
 
--- src/tables.rt:109:9
 returns : tie.Need-returns
 returns c = let a = (c .before .before .before .before .args) in sign-first (now (a .s)) (a .at) ((c .before .word) .ensures) ((c .if1) .taken)
 
--- src/tables.rt:111:27
 slice-aggregate-word-2 : tie.Need-slice-aggregate-word-2
-slice-aggregate-word-2 c = search needs
+slice-aggregate-word-2 c = refl
 
--- src/tables.rt:111:9
 word-requires-2 : tie.Need-word-requires-2
-word-requires-2 c κs = search needs
+word-requires-2 c κs = tt
 
--- src/tables.rt:104:1
 returns-2 : tie.Need-returns-2
 returns-2 c = let a = (c .before .before .before .before .before .before .args) in sign-second (now (a .s)) (a .at) ((c .before .before .before .word) .ensures) ((c .before .before .if1) .left) ((c .word2) .ensures)
 

@@ -1,15 +1,15 @@
-use Rattle.reader.proofs.Parts.{no-term, variable-term, applied-term, term-list}
-use Rattle.reader.proofs.Loop.{Going, start, within, going-on, turn, finish}
-use Rattle.reader.specs.Summary.{termMeasure, summary, settled, joined}
-use lib.ListN.{length, drop}
-use mathlib.Core.Path.{_≡_, sym, _∙_, ap}
-use Prim.Native.Nat.{_≤_, _+_, _-_, _*_}
-use denote.Ref.{now}
-use native.Mathlib.Omega.{arith}
-use borrow.Author.Needs.{needs}
-use Prim.Native.Nat.{ℕ, _<_}
+use Prim.Native.Nat.{_+_, _-_, _*_, ℕ, _<_}
 use borrow.Fn.Kinds.{In}
 use borrow.Fn.PlainCycle.{Measures, is, falls, and}
+use denote.Ref.{now}
+use lib.ListN.{length}
+use mathlib.Core.Path.{sym, _∙_, ap, refl}
+use native.Mathlib.Omega.{arith}
+use Rattle.reader.specs.Summary.{termMeasure, summary, settled}
+use Rattle.reader.proofs.Loop.{Going, start, within, going-on, turn, finish}
+use Rattle.reader.proofs.Parts.{no-term, variable-term, applied-term, term-list}
+use Rattle.reader.proofs.terms.+term+terms.Tie.{close}
+use Rattle.reader.proofs.terms.+term+terms.{statement}
 use Rattle.reader.proofs.terms.term.Reads as term
 use Rattle.reader.proofs.terms.term.Kinds as term-kinds
 use Rattle.reader.proofs.terms.+term+terms.Lts-term as term-lts
@@ -24,8 +24,6 @@ use Rattle.reader.proofs.summaries.settle.Reads as settle-reads
 use Rattle.reader.proofs.terms.applied.Reads as applied-reads
 use Rattle.reader.proofs.terms.variable.Reads as variable-reads
 use Rattle.reader.proofs.words.word.Reads as word-reads
-use Rattle.reader.proofs.terms.+term+terms.{statement}
-use Rattle.reader.proofs.terms.+term+terms.Tie.{close}
 
 abbrev μ-term : Measures 2 term-kinds.ps ℕ
 μ-term κs a = 2 * a .1 .1 .0
@@ -45,7 +43,6 @@ terms-at t = and 2 terms-kinds.ps (is 2 terms-kinds.ps μ-terms t) terms.Pre
 abbrev terms-below : ℕ → In 2 terms-kinds.ps
 terms-below t = and 2 terms-kinds.ps (falls 2 terms-kinds.ps _<_ μ-terms t) terms.Pre
 
--- src/terms.rt:61:26
 term-add-settle : (t : ℕ) → term-lts.Need-add-settle (
   none-reads.Asked,
   none-reads.Learnt,
@@ -64,7 +61,6 @@ term-add-settle : (t : ℕ) → term-lts.Need-add-settle (
 ) (term-at t) term.Post
 term-add-settle t c = omega arith
 
--- src/terms.rt:61:39
 term-none-requires : (t : ℕ) → term-lts.Need-none-requires (
   none-reads.Asked,
   none-reads.Learnt,
@@ -81,9 +77,8 @@ term-none-requires : (t : ℕ) → term-lts.Need-none-requires (
   applied-reads.Asked,
   applied-reads.Learnt,
 ) (term-at t) term.Post
-term-none-requires t c κs = search needs
+term-none-requires t c κs = tt
 
--- src/terms.rt:61:9
 term-settle-requires : (t : ℕ) → term-lts.Need-settle-requires (
   none-reads.Asked,
   none-reads.Learnt,
@@ -100,9 +95,8 @@ term-settle-requires : (t : ℕ) → term-lts.Need-settle-requires (
   applied-reads.Asked,
   applied-reads.Learnt,
 ) (term-at t) term.Post
-term-settle-requires t c κs = search needs
+term-settle-requires t c κs = tt
 
--- src/terms.rt:61:9
 term-returns : (t : ℕ) → term-lts.Need-returns (
   none-reads.Asked,
   none-reads.Learnt,
@@ -121,7 +115,6 @@ term-returns : (t : ℕ) → term-lts.Need-returns (
 ) (term-at t) term.Post
 term-returns t c = let a = (c .before .before .before .before .before .args) in (c .settle) .ensures ∙ no-term (now (a .table)) (now (a .s)) (a .at) _ ((c .before .before .if1) .taken)
 
--- src/terms.rt:63:25
 term-slice-aggregate-word : (t : ℕ) → term-lts.Need-slice-aggregate-word (
   none-reads.Asked,
   none-reads.Learnt,
@@ -138,9 +131,8 @@ term-slice-aggregate-word : (t : ℕ) → term-lts.Need-slice-aggregate-word (
   applied-reads.Asked,
   applied-reads.Learnt,
 ) (term-at t) term.Post
-term-slice-aggregate-word t c = omega arith
+term-slice-aggregate-word t c = refl
 
--- src/terms.rt:63:9
 term-word-requires : (t : ℕ) → term-lts.Need-word-requires (
   none-reads.Asked,
   none-reads.Learnt,
@@ -157,9 +149,8 @@ term-word-requires : (t : ℕ) → term-lts.Need-word-requires (
   applied-reads.Asked,
   applied-reads.Learnt,
 ) (term-at t) term.Post
-term-word-requires t c κs = search needs
+term-word-requires t c κs = tt
 
--- src/terms.rt:65:9
 term-variable-requires : (t : ℕ) → term-lts.Need-variable-requires (
   none-reads.Asked,
   none-reads.Learnt,
@@ -176,9 +167,8 @@ term-variable-requires : (t : ℕ) → term-lts.Need-variable-requires (
   applied-reads.Asked,
   applied-reads.Learnt,
 ) (term-at t) term.Post
-term-variable-requires t c κs = search needs
+term-variable-requires t c κs = tt
 
--- src/terms.rt:65:9
 term-returns-2 : (t : ℕ) → term-lts.Need-returns-2 (
   none-reads.Asked,
   none-reads.Learnt,
@@ -197,7 +187,6 @@ term-returns-2 : (t : ℕ) → term-lts.Need-returns-2 (
 ) (term-at t) term.Post
 term-returns-2 t c = let a = (c .before .before .before .before .before .before .before .args) in (c .variable) .ensures ∙ ap (summary (termMeasure (now (a .table))) (now (a .s))) (sym (variable-term (now (a .table)) (now (a .s)) (a .at) (a .depth) ((c .before .before .before .before .if1) .left) ((c .before .before .word) .ensures) ((c .before .if2) .taken)))
 
--- src/terms.rt:67:25
 term-slice-aggregate-word-2 : (t : ℕ) → term-lts.Need-slice-aggregate-word-2 (
   none-reads.Asked,
   none-reads.Learnt,
@@ -214,9 +203,8 @@ term-slice-aggregate-word-2 : (t : ℕ) → term-lts.Need-slice-aggregate-word-2
   applied-reads.Asked,
   applied-reads.Learnt,
 ) (term-at t) term.Post
-term-slice-aggregate-word-2 t c = omega arith
+term-slice-aggregate-word-2 t c = refl
 
--- src/terms.rt:67:9
 term-word-requires-2 : (t : ℕ) → term-lts.Need-word-requires-2 (
   none-reads.Asked,
   none-reads.Learnt,
@@ -233,9 +221,8 @@ term-word-requires-2 : (t : ℕ) → term-lts.Need-word-requires-2 (
   applied-reads.Asked,
   applied-reads.Learnt,
 ) (term-at t) term.Post
-term-word-requires-2 t c κs = search needs
+term-word-requires-2 t c κs = tt
 
--- src/terms.rt:68:9
 term-number-requires : (t : ℕ) → term-lts.Need-number-requires (
   none-reads.Asked,
   none-reads.Learnt,
@@ -252,9 +239,8 @@ term-number-requires : (t : ℕ) → term-lts.Need-number-requires (
   applied-reads.Asked,
   applied-reads.Learnt,
 ) (term-at t) term.Post
-term-number-requires t c κs = search needs
+term-number-requires t c κs = tt
 
--- src/terms.rt:69:33
 term-sub-terms : (t : ℕ) → term-lts.Need-sub-terms (
   none-reads.Asked,
   none-reads.Learnt,
@@ -273,7 +259,6 @@ term-sub-terms : (t : ℕ) → term-lts.Need-sub-terms (
 ) (term-at t) term.Post
 term-sub-terms t c = omega arith
 
--- src/terms.rt:69:9
 term-terms-requires : (t : ℕ) → term-lts.Need-terms-requires (
   none-reads.Asked,
   none-reads.Learnt,
@@ -292,7 +277,6 @@ term-terms-requires : (t : ℕ) → term-lts.Need-terms-requires (
 ) (term-at t) term.Post
 term-terms-requires t c κs = (omega (arith, (c .before .before .before .before .before .before .before .before .before .pre) .0), tt)
 
--- src/terms.rt:70:26
 term-applied-requires : (t : ℕ) → term-lts.Need-applied-requires (
   none-reads.Asked,
   none-reads.Learnt,
@@ -309,9 +293,8 @@ term-applied-requires : (t : ℕ) → term-lts.Need-applied-requires (
   applied-reads.Asked,
   applied-reads.Learnt,
 ) (term-at t) term.Post
-term-applied-requires t c κs = search needs
+term-applied-requires t c κs = tt
 
--- src/terms.rt:70:5
 term-settle-requires-2 : (t : ℕ) → term-lts.Need-settle-requires-2 (
   none-reads.Asked,
   none-reads.Learnt,
@@ -328,9 +311,8 @@ term-settle-requires-2 : (t : ℕ) → term-lts.Need-settle-requires-2 (
   applied-reads.Asked,
   applied-reads.Learnt,
 ) (term-at t) term.Post
-term-settle-requires-2 t c κs = search needs
+term-settle-requires-2 t c κs = tt
 
--- src/terms.rt:57:1
 term-returns-3 : (t : ℕ) → term-lts.Need-returns-3 (
   none-reads.Asked,
   none-reads.Learnt,
@@ -355,7 +337,6 @@ terms-Inv-loop s at depth table i₀ m₀ count₀ next₀ t12 t13 i m count nex
 abbrev terms-μ-loop : terms-lts.MeasureT-loop
 terms-μ-loop s at depth table i₀ m₀ count₀ next₀ t12 t13 i m count next = length s + 1 - i
 
--- src/terms.rt:78:9
 terms-none-requires : (t : ℕ) → terms-lts.Need-none-requires (
   none-reads.Asked,
   none-reads.Learnt,
@@ -370,9 +351,8 @@ terms-none-requires : (t : ℕ) → terms-lts.Need-none-requires (
   settle-reads.Asked,
   settle-reads.Learnt,
 ) (terms-at t) terms.Post terms-Inv-loop terms-μ-loop
-terms-none-requires t c κs = search needs
+terms-none-requires t c κs = tt
 
--- src/terms.rt:80:32
 terms-slice-aggregate-word : (t : ℕ) → terms-lts.Need-slice-aggregate-word (
   none-reads.Asked,
   none-reads.Learnt,
@@ -387,9 +367,8 @@ terms-slice-aggregate-word : (t : ℕ) → terms-lts.Need-slice-aggregate-word (
   settle-reads.Asked,
   settle-reads.Learnt,
 ) (terms-at t) terms.Post terms-Inv-loop terms-μ-loop
-terms-slice-aggregate-word t c = omega arith
+terms-slice-aggregate-word t c = refl
 
--- src/terms.rt:80:9
 terms-word-requires : (t : ℕ) → terms-lts.Need-word-requires (
   none-reads.Asked,
   none-reads.Learnt,
@@ -404,9 +383,8 @@ terms-word-requires : (t : ℕ) → terms-lts.Need-word-requires (
   settle-reads.Asked,
   settle-reads.Learnt,
 ) (terms-at t) terms.Post terms-Inv-loop terms-μ-loop
-terms-word-requires t c κs = search needs
+terms-word-requires t c κs = tt
 
--- src/terms.rt:81:5
 terms-loop-holds : (t : ℕ) → terms-lts.Need-loop-holds (
   none-reads.Asked,
   none-reads.Learnt,
@@ -423,7 +401,6 @@ terms-loop-holds : (t : ℕ) → terms-lts.Need-loop-holds (
 ) (terms-at t) terms.Post terms-Inv-loop terms-μ-loop
 terms-loop-holds t c = let a = (c .before .before .before .before .before .args) in start (term-list (a .depth) (now (a .table))) (now (a .s)) (a .at) ((c .before .before .none) .ensures) ((c .word) .ensures)
 
--- src/terms.rt:82:13
 terms-term-requires : (t : ℕ) → terms-lts.Need-term-requires (
   none-reads.Asked,
   none-reads.Learnt,
@@ -440,7 +417,6 @@ terms-term-requires : (t : ℕ) → terms-lts.Need-term-requires (
 ) (terms-at t) terms.Post terms-Inv-loop terms-μ-loop
 terms-term-requires t c κs = (omega (arith, (c .before .before .before .before .before .before .before .pre) .0), tt)
 
--- src/terms.rt:84:9
 terms-join-requires : (t : ℕ) → terms-lts.Need-join-requires (
   none-reads.Asked,
   none-reads.Learnt,
@@ -455,9 +431,8 @@ terms-join-requires : (t : ℕ) → terms-lts.Need-join-requires (
   settle-reads.Asked,
   settle-reads.Learnt,
 ) (terms-at t) terms.Post terms-Inv-loop terms-μ-loop
-terms-join-requires t c κs = search needs
+terms-join-requires t c κs = tt
 
--- src/terms.rt:85:9
 terms-add-count : (t : ℕ) → terms-lts.Need-add-count (
   none-reads.Asked,
   none-reads.Learnt,
@@ -474,7 +449,6 @@ terms-add-count : (t : ℕ) → terms-lts.Need-add-count (
 ) (terms-at t) terms.Post terms-Inv-loop terms-μ-loop
 terms-add-count t c = let a = (c .before .before .before .before .before .before .before .before .before .args) in let l = (c .before .before .before .loop) in let T = term-list (a .depth) (now (a .table)) in let s = now (a .s) in omega (arith, within T s (a .at) (l .inv) ((c .before .before .loop-test) .taken))
 
--- src/terms.rt:86:27
 terms-slice-aggregate-word-2 : (t : ℕ) → terms-lts.Need-slice-aggregate-word-2 (
   none-reads.Asked,
   none-reads.Learnt,
@@ -489,9 +463,8 @@ terms-slice-aggregate-word-2 : (t : ℕ) → terms-lts.Need-slice-aggregate-word
   settle-reads.Asked,
   settle-reads.Learnt,
 ) (terms-at t) terms.Post terms-Inv-loop terms-μ-loop
-terms-slice-aggregate-word-2 t c = omega arith
+terms-slice-aggregate-word-2 t c = refl
 
--- src/terms.rt:86:9
 terms-word-requires-2 : (t : ℕ) → terms-lts.Need-word-requires-2 (
   none-reads.Asked,
   none-reads.Learnt,
@@ -506,9 +479,8 @@ terms-word-requires-2 : (t : ℕ) → terms-lts.Need-word-requires-2 (
   settle-reads.Asked,
   settle-reads.Learnt,
 ) (terms-at t) terms.Post terms-Inv-loop terms-μ-loop
-terms-word-requires-2 t c κs = search needs
+terms-word-requires-2 t c κs = tt
 
--- src/terms.rt:81:5
 terms-loop-less : (t : ℕ) → terms-lts.Need-loop-less (
   none-reads.Asked,
   none-reads.Learnt,
@@ -525,7 +497,6 @@ terms-loop-less : (t : ℕ) → terms-lts.Need-loop-less (
 ) (terms-at t) terms.Post terms-Inv-loop terms-μ-loop
 terms-loop-less t c = let a = (c .before .before .before .before .before .before .before .before .before .before .before .args) in let l = (c .before .before .before .before .before .loop) in let T = term-list (a .depth) (now (a .table)) in let s = now (a .s) in omega (arith, going-on T s (a .at) (l .inv) ((c .before .before .before .before .loop-test) .taken) ((c .before .before .before .term) .ensures))
 
--- src/terms.rt:81:5
 terms-loop-again : (t : ℕ) → terms-lts.Need-loop-again (
   none-reads.Asked,
   none-reads.Learnt,
@@ -542,7 +513,6 @@ terms-loop-again : (t : ℕ) → terms-lts.Need-loop-again (
 ) (terms-at t) terms.Post terms-Inv-loop terms-μ-loop
 terms-loop-again t c = let a = (c .before .before .before .before .before .before .before .before .before .before .before .args) in let l = (c .before .before .before .before .before .loop) in let T = term-list (a .depth) (now (a .table)) in let s = now (a .s) in turn T s (a .at) (l .inv) ((c .before .before .before .before .loop-test) .taken) ((c .before .before .before .term) .ensures) ((c .before .before .join) .ensures) ((c .word2) .ensures)
 
--- src/terms.rt:88:24
 terms-slice-aggregate-word-3 : (t : ℕ) → terms-lts.Need-slice-aggregate-word-3 (
   none-reads.Asked,
   none-reads.Learnt,
@@ -557,9 +527,8 @@ terms-slice-aggregate-word-3 : (t : ℕ) → terms-lts.Need-slice-aggregate-word
   settle-reads.Asked,
   settle-reads.Learnt,
 ) (terms-at t) terms.Post terms-Inv-loop terms-μ-loop
-terms-slice-aggregate-word-3 t c = omega arith
+terms-slice-aggregate-word-3 t c = refl
 
--- src/terms.rt:88:9
 terms-word-requires-3 : (t : ℕ) → terms-lts.Need-word-requires-3 (
   none-reads.Asked,
   none-reads.Learnt,
@@ -574,9 +543,8 @@ terms-word-requires-3 : (t : ℕ) → terms-lts.Need-word-requires-3 (
   settle-reads.Asked,
   settle-reads.Learnt,
 ) (terms-at t) terms.Post terms-Inv-loop terms-μ-loop
-terms-word-requires-3 t c κs = search needs
+terms-word-requires-3 t c κs = tt
 
--- src/terms.rt:89:18
 terms-recount-requires : (t : ℕ) → terms-lts.Need-recount-requires (
   none-reads.Asked,
   none-reads.Learnt,
@@ -591,9 +559,8 @@ terms-recount-requires : (t : ℕ) → terms-lts.Need-recount-requires (
   settle-reads.Asked,
   settle-reads.Learnt,
 ) (terms-at t) terms.Post terms-Inv-loop terms-μ-loop
-terms-recount-requires t c κs = search needs
+terms-recount-requires t c κs = tt
 
--- src/terms.rt:89:5
 terms-settle-requires : (t : ℕ) → terms-lts.Need-settle-requires (
   none-reads.Asked,
   none-reads.Learnt,
@@ -608,9 +575,8 @@ terms-settle-requires : (t : ℕ) → terms-lts.Need-settle-requires (
   settle-reads.Asked,
   settle-reads.Learnt,
 ) (terms-at t) terms.Post terms-Inv-loop terms-μ-loop
-terms-settle-requires t c κs = search needs
+terms-settle-requires t c κs = tt
 
--- src/terms.rt:74:1
 terms-returns : (t : ℕ) → terms-lts.Need-returns (
   none-reads.Asked,
   none-reads.Learnt,

@@ -1,16 +1,13 @@
-use Rattle.reader.proofs.Sizes.{length-here, length-further, length-over}
-use Rattle.reader.specs.Size.{lineLength, lineEndAt}
-use lib.ListN.{length, drop}
 use Prim.Native.Nat.{_≤_, _+_, _-_}
 use borrow.Author.Tests.{lt-ltb, le-ltb}
-use mathlib.Core.Path.{_≡_, refl, sym, _∙_, ap}
 use denote.Ref.{now}
+use lib.ListN.{length, drop}
+use mathlib.Core.Path.{_≡_, refl}
 use native.Mathlib.Omega.{arith}
-use borrow.Author.Needs.{needs}
+use Rattle.reader.specs.Size.{lineLength, lineEndAt}
+use Rattle.reader.proofs.Sizes.{length-here, length-further, length-over}
 use Rattle.reader.proofs.texts.line_end.Statement.{statement}
 use Rattle.reader.proofs.texts.line_end.Tie as tie
-use Rattle.reader.proofs.texts.line_end.Reads as reads
-use Rattle.reader.proofs.texts.line_end.Lts as lts
 
 abbrev Inv-loop : tie.InvT-loop
 Inv-loop text at n i₀ i = (i ≤ length text) × (i + lineLength (drop i text) ≡ at + lineLength (drop at text))
@@ -18,37 +15,29 @@ Inv-loop text at n i₀ i = (i ≤ length text) × (i + lineLength (drop i text)
 abbrev μ-loop : tie.MeasureT-loop
 μ-loop text at n i₀ i = length text - i
 
--- src/texts.rt:13:9
 returns : tie.Need-returns Inv-loop μ-loop
 unfolding lineEndAt
 returns c = rw (le-ltb _ _ ((c .if1) .taken))
 
--- src/texts.rt:16:5
 loop-holds : tie.Need-loop-holds Inv-loop μ-loop
 loop-holds c = (omega arith, refl)
 
--- src/texts.rt:17:12
 shared-slice-read-if2 : tie.Need-shared-slice-read-if2 Inv-loop μ-loop
 shared-slice-read-if2 c = omega arith
 
--- src/texts.rt:18:13
 returns-2 : tie.Need-returns-2 Inv-loop μ-loop
 unfolding lineEndAt
 returns-2 c = let l = (c .before .before .before .loop) in let x = now ((c .before .before .before .before .before .args) .text) in rw (lt-ltb _ _ ((c .before .before .before .before .if1) .left), ← l .inv .1, length-here x (l .i) (omega arith) ((c .if2) .taken)) (omega arith)
 
--- src/texts.rt:20:9
 add-i : tie.Need-add-i Inv-loop μ-loop
 add-i c = omega arith
 
--- src/texts.rt:16:5
 loop-less : tie.Need-loop-less Inv-loop μ-loop
 loop-less c = omega arith
 
--- src/texts.rt:16:5
 loop-again : tie.Need-loop-again Inv-loop μ-loop
 loop-again c = let l = (c .before .before .before .loop) in let x = now ((c .before .before .before .before .before .args) .text) in (omega arith, omega (arith, l .inv .1, length-further x (l .i) (omega arith) ((c .if2) .left)))
 
--- src/texts.rt:8:1
 returns-3 : tie.Need-returns-3 Inv-loop μ-loop
 unfolding lineEndAt
 returns-3 c = let l = (c .before .loop) in let x = now ((c .before .before .before .args) .text) in rw (lt-ltb _ _ ((c .before .before .if1) .left), ← l .inv .1, length-over x (l .i) (omega arith)) (omega arith)

@@ -1,18 +1,14 @@
-use Prim.Native.Nat.{ℕ, _≤_}
-use Rattle.reader.proofs.Sizes.{countFrom, count-end, count-byte, count-over}
-use Rattle.reader.specs.Size.{lineCount}
-use lib.ListN.{length, drop}
-use mathlib.Core.Logic.{⊎-elim}
-use mathlib.Core.Bool.{true, false, cond}
 use Prim.Native.Nat.{_≤_, _+_, _-_}
-use mathlib.Core.Path.{_≡_, refl, sym, _∙_, ap}
 use denote.Ref.{now}
+use lib.ListN.{length, drop}
+use mathlib.Core.Bool.{true, false, cond}
+use mathlib.Core.Logic.{⊎-elim}
+use mathlib.Core.Path.{_≡_, _∙_, ap}
 use native.Mathlib.Omega.{arith}
-use borrow.Author.Needs.{needs}
+use Rattle.reader.specs.Size.{lineCount}
+use Rattle.reader.proofs.Sizes.{countFrom, count-end, count-byte, count-over}
 use Rattle.reader.proofs.texts.lines.Statement.{statement}
 use Rattle.reader.proofs.texts.lines.Tie as tie
-use Rattle.reader.proofs.texts.lines.Reads as reads
-use Rattle.reader.proofs.texts.lines.Lts as lts
 
 abbrev Inv-loop : tie.InvT-loop
 Inv-loop text count₀ begun₀ i₀ count begun i = (i ≤ length text) × (count ≤ i) × (lineCount text ≡ count + countFrom begun (drop i text))
@@ -20,40 +16,31 @@ Inv-loop text count₀ begun₀ i₀ count begun i = (i ≤ length text) × (cou
 abbrev μ-loop : tie.MeasureT-loop
 μ-loop text count₀ begun₀ i₀ count begun i = length text - i
 
--- src/texts.rt:32:5
 loop-holds : tie.Need-loop-holds Inv-loop μ-loop
 unfolding countFrom
 loop-holds c = (omega arith, omega arith, omega arith)
 
--- src/texts.rt:33:12
 shared-slice-read-if1 : tie.Need-shared-slice-read-if1 Inv-loop μ-loop
 shared-slice-read-if1 c = omega arith
 
--- src/texts.rt:34:13
 add-count : tie.Need-add-count Inv-loop μ-loop
 add-count c = omega arith
 
--- src/texts.rt:39:9
 add-i : tie.Need-add-i Inv-loop μ-loop
 add-i c = omega arith
 
--- src/texts.rt:32:5
 loop-less : tie.Need-loop-less Inv-loop μ-loop
 loop-less c = omega arith
 
--- src/texts.rt:32:5
 loop-again : tie.Need-loop-again Inv-loop μ-loop
 loop-again c = let l = (c .before .before .before .loop) in let x = now ((c .before .before .before .before .args) .text) in ⊎-elim (λ w. (omega arith, omega arith, rw (w .2) (omega (arith, l .inv .2, count-end x (l .i) (l .begun) (omega arith) (w .0 .taken))))) (λ w. (omega arith, omega arith, rw (w .2) (omega (arith, l .inv .2, count-byte x (l .i) (l .begun) (omega arith) (w .0 .left))))) ((c .if1) .came)
 
--- src/texts.rt:41:16
 add-result : tie.Need-add-result Inv-loop μ-loop
 add-result c = omega arith
 
--- src/texts.rt:26:1
 returns : tie.Need-returns Inv-loop μ-loop
 returns c = let l = (c .before .before .loop) in let x = now ((c .before .before .before .args) .text) in let b : l .begun ≡ true = (c .if2) .taken in omega (arith, l .inv .2, count-over x (l .i) (l .begun) (omega arith) ∙ ap (λ b. cond b 1 0) b)
 
--- src/texts.rt:26:1
 returns-2 : tie.Need-returns-2 Inv-loop μ-loop
 returns-2 c = let l = (c .before .before .loop) in let x = now ((c .before .before .before .args) .text) in let b : l .begun ≡ false = (c .if2) .left in omega (arith, l .inv .2, count-over x (l .i) (l .begun) (omega arith) ∙ ap (λ b. cond b 1 0) b)
 

@@ -1,16 +1,12 @@
-use denote.Ref.{now}
 use Prim.Native.Nat.{_≤_, _-_}
-use mathlib.Core.Path.{_≡_, refl, sym, _∙_, ap}
+use denote.Ref.{now}
 use lib.ListN.{length, drop}
-use Rattle.reader.specs.Read.{strip}
-use Rattle.reader.specs.Places.{endOf}
-use Rattle.reader.proofs.Places.{end-bad, end-at, end-past, strip-all, strip-more, strip-other, strip-past}
+use mathlib.Core.Path.{_≡_, refl, _∙_}
 use native.Mathlib.Omega.{arith}
-use borrow.Author.Needs.{needs}
+use Rattle.reader.specs.Read.{strip}
+use Rattle.reader.proofs.Places.{end-bad, end-at, end-past, strip-all, strip-more, strip-other, strip-past}
 use Rattle.reader.proofs.words.word.Statement.{statement}
 use Rattle.reader.proofs.words.word.Tie as tie
-use Rattle.reader.proofs.words.word.Reads as reads
-use Rattle.reader.proofs.words.word.Lts as lts
 
 abbrev Inv-loop : tie.InvT-loop
 Inv-loop s at w n j₀ i₀ j i = (i ≤ length w) × (strip w (drop at s) ≡ strip (drop i w) (drop j s))
@@ -18,55 +14,42 @@ Inv-loop s at w n j₀ i₀ j i = (i ≤ length w) × (strip w (drop at s) ≡ s
 abbrev μ-loop : tie.MeasureT-loop
 μ-loop s at w n j₀ i₀ j i = length w - i
 
--- src/words.rt:14:5
 loop-holds : tie.Need-loop-holds Inv-loop μ-loop
 loop-holds c = (omega arith, refl)
 
--- src/words.rt:16:20
 add-result : tie.Need-add-result Inv-loop μ-loop
 add-result c = omega arith
 
--- src/words.rt:16:13
 returns : tie.Need-returns Inv-loop μ-loop
 returns c = let a = c .before .before .before .args in let l = c .before .before .loop in end-bad _ (l .inv .1 ∙ strip-past (now (a .s)) (now (a .w)) (l .i) (l .j) (omega arith) (omega arith))
 
--- src/words.rt:18:12
 shared-slice-read-if2 : tie.Need-shared-slice-read-if2 Inv-loop μ-loop
 shared-slice-read-if2 c = omega arith
 
--- src/words.rt:18:20
 shared-slice-read-if2-2 : tie.Need-shared-slice-read-if2-2 Inv-loop μ-loop
 shared-slice-read-if2-2 c = omega arith
 
--- src/words.rt:19:20
 add-result-2 : tie.Need-add-result-2 Inv-loop μ-loop
 add-result-2 c = omega arith
 
--- src/words.rt:19:13
 returns-2 : tie.Need-returns-2 Inv-loop μ-loop
 returns-2 c = let a = c .before .before .before .before .before .before .args in let l = c .before .before .before .before .before .loop in end-bad _ (l .inv .1 ∙ strip-other (now (a .s)) (now (a .w)) (l .i) (l .j) (omega arith) (omega arith) (c .if2 .taken))
 
--- src/words.rt:21:9
 add-j : tie.Need-add-j Inv-loop μ-loop
 add-j c = omega arith
 
--- src/words.rt:22:9
 add-i : tie.Need-add-i Inv-loop μ-loop
 add-i c = omega arith
 
--- src/words.rt:14:5
 loop-less : tie.Need-loop-less Inv-loop μ-loop
 loop-less c = omega arith
 
--- src/words.rt:14:5
 loop-again : tie.Need-loop-again Inv-loop μ-loop
 loop-again c = let a = c .before .before .before .before .before .before .args in let l = c .before .before .before .before .before .loop in (omega arith, l .inv .1 ∙ strip-more (now (a .s)) (now (a .w)) (l .i) (l .j) (omega arith) (omega arith) (omega arith))
 
--- src/words.rt:8:1
 returns-3 : tie.Need-returns-3 Inv-loop μ-loop
 returns-3 c = let a = c .before .before .before .args in let l = c .before .before .loop in end-at _ (omega arith) (l .inv .1 ∙ strip-all (now (a .w)) _ (l .i) (omega arith))
 
--- src/words.rt:8:1
 returns-4 : tie.Need-returns-4 Inv-loop μ-loop
 returns-4 c = let a = c .before .before .before .args in let l = c .before .before .loop in end-past _ (l .j) (omega arith) (l .inv .1 ∙ strip-all (now (a .w)) _ (l .i) (omega arith))
 

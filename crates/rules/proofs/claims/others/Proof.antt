@@ -23,11 +23,11 @@ abbrev μ-loop : tie.MeasureT-loop
 
 -- src/claims.rt:39:29
 slice-aggregate-word : tie.Need-slice-aggregate-word Inv-loop μ-loop
-slice-aggregate-word c = search needs
+slice-aggregate-word c = refl
 
 -- src/claims.rt:39:9
 word-requires : tie.Need-word-requires Inv-loop μ-loop
-word-requires c κs = search needs
+word-requires c κs = tt
 
 -- src/claims.rt:42:5
 loop-holds : tie.Need-loop-holds Inv-loop μ-loop
@@ -35,19 +35,19 @@ loop-holds c = (omega arith, (let z : c .before .before .before .before .before 
 
 -- src/claims.rt:43:33
 slice-aggregate-word-2 : tie.Need-slice-aggregate-word-2 Inv-loop μ-loop
-slice-aggregate-word-2 c = search needs
+slice-aggregate-word-2 c = refl
 
 -- src/claims.rt:43:13
 word-requires-2 : tie.Need-word-requires-2 Inv-loop μ-loop
-word-requires-2 c κs = search needs
+word-requires-2 c κs = tt
 
 -- src/claims.rt:44:9
 kept-requires : tie.Need-kept-requires Inv-loop μ-loop
-kept-requires c κs = search needs
+kept-requires c κs = tt
 
 -- src/claims.rt:45:9
 skip-requires : tie.Need-skip-requires Inv-loop μ-loop
-skip-requires c κs = search needs
+skip-requires c κs = tt
 
 -- src/claims.rt:46:9
 add-n : tie.Need-add-n Inv-loop μ-loop

@@ -1,4 +1,4 @@
-use mathlib.Core.Path.{ap}
+use mathlib.Core.Path.{ap, refl}
 use Rattle.rules.specs.declared.compare.Ends.{Ends}
 use Rattle.rules.specs.Claims.{rewrittenAt}
 use Rattle.rules.specs.Shapes.{stripAt}
@@ -12,11 +12,11 @@ use Rattle.rules.proofs.compare.expect.Reads as expect-reads
 
 -- src/claims.rt:77:97
 slice-aggregate-word : tie.Need-slice-aggregate-word
-slice-aggregate-word c = search needs
+slice-aggregate-word c = refl
 
 -- src/claims.rt:77:81
 word-requires : tie.Need-word-requires
-word-requires c κs = search needs
+word-requires c κs = tt
 
 -- src/claims.rt:77:9
 expect-requires : tie.Need-expect-requires

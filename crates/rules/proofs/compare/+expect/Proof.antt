@@ -118,7 +118,7 @@ expect-returns-6 : (t : ℕ) → expect-lts.Need-returns-6 (callees t) (expect-a
 expect-returns-6 t c =
     let a = c .before .before .before .before .before .before .before .before .before .before .before .before .before .args in
     let x : Call = record { p = now (a .p); at = a .at; depth = a .depth; line = now (a .line); starts = now (a .starts); hole = a .hole; q = now (a .q); from = a .from; others = now (a .others); t = now (a .t); pos = a .pos } in
-    c .expect-entry .ensures ∙ rw (at-variable x (omega arith) (omega arith) (c .before .before .before .before .if3 .left) (c .before .before .word .ensures) (omega arith))
+    rw (at-variable x (omega arith) (omega arith) (c .before .before .before .before .if3 .left) (c .before .before .word .ensures) (omega arith)) (c .expect-entry .ensures)
 
 expect-shared-slice-read-if7 : (t : ℕ) → expect-lts.Need-shared-slice-read-if7 (callees t) (expect-at t) expect.Post expect-Inv-loop expect-μ-loop
 expect-shared-slice-read-if7 t c = omega arith

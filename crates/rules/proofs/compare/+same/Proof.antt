@@ -62,7 +62,7 @@ same-returns-2 : (t : ℕ) → same-lts.Need-returns-2 (callees t) (same-at t) s
 same-returns-2 t c =
     let a = c .before .before .before .before .before .before .before .before .before .before .args in
     let x : Call = record { p = now (a .p); at = a .at; line = now (a .line); starts = now (a .starts); q = now (a .q); pos = a .pos; others = now (a .others); depth = a .depth } in
-    c .same-entry .ensures ∙ ap (endsOf (x .p) (x .q)) (sym (at-first x (omega arith) (c .before .before .word .ensures) (omega arith)))
+    rw (at-first x (omega arith) (c .before .before .word .ensures) (omega arith)) (c .same-entry .ensures)
 
 same-slice-aggregate-word-2 : (t : ℕ) → same-lts.Need-slice-aggregate-word-2 (callees t) (same-at t) same.Post same-Inv-loop same-μ-loop
 same-slice-aggregate-word-2 t c = refl

@@ -1,3 +1,4 @@
+use mathlib.Core.Path.{refl}
 use denote.Ref.{now}
 use native.Mathlib.Omega.{arith}
 use Rattle.reader.specs.Access.{entryOf}
@@ -14,19 +15,19 @@ use Rattle.rules.proofs.compare.differ.Reads as differ-reads
 
 -- src/compare.rt:32:9
 number-requires : tie.Need-number-requires
-number-requires c κs = search needs
+number-requires c κs = tt
 
 -- src/compare.rt:33:34
 slice-aggregate-word : tie.Need-slice-aggregate-word
-slice-aggregate-word c = search needs
+slice-aggregate-word c = refl
 
 -- src/compare.rt:33:9
 word-requires : tie.Need-word-requires
-word-requires c κs = search needs
+word-requires c κs = tt
 
 -- src/compare.rt:35:9
 differ-requires : tie.Need-differ-requires
-differ-requires c κs = search needs
+differ-requires c κs = tt
 
 -- src/compare.rt:35:9
 returns : tie.Need-returns
@@ -38,15 +39,15 @@ returns c =
 
 -- src/compare.rt:37:29
 entry-requires : tie.Need-entry-requires
-entry-requires c κs = search needs
+entry-requires c κs = tt
 
 -- src/compare.rt:37:9
 word-requires-2 : tie.Need-word-requires-2
-word-requires-2 c κs = search needs
+word-requires-2 c κs = tt
 
 -- src/compare.rt:39:9
 differ-requires-2 : tie.Need-differ-requires-2
-differ-requires-2 c κs = search needs
+differ-requires-2 c κs = tt
 
 -- src/compare.rt:39:9
 returns-2 : tie.Need-returns-2

@@ -1,5 +1,5 @@
 use denote.Ref.{now}
-use mathlib.Core.Path.{_∙_, ap}
+use mathlib.Core.Path.{_∙_, ap, refl}
 use native.Mathlib.Omega.{arith}
 use lib.ListN.{length, drop}
 use Rattle.reader.specs.Access.{entryOf}
@@ -20,19 +20,19 @@ use Rattle.rules.proofs.compare.expect_filled.Reads as expect-filled-re
 
 -- src/compare.rt:144:9
 number-requires : tie.Need-number-requires
-number-requires c κs = search needs
+number-requires c κs = tt
 
 -- src/compare.rt:145:34
 slice-aggregate-word : tie.Need-slice-aggregate-word
-slice-aggregate-word c = search needs
+slice-aggregate-word c = refl
 
 -- src/compare.rt:145:9
 word-requires : tie.Need-word-requires
-word-requires c κs = search needs
+word-requires c κs = tt
 
 -- src/compare.rt:147:9
 differ-requires : tie.Need-differ-requires
-differ-requires c κs = search needs
+differ-requires c κs = tt
 
 -- src/compare.rt:147:9
 returns : tie.Need-returns
@@ -44,7 +44,7 @@ returns c =
 
 -- src/compare.rt:149:9
 entry-requires : tie.Need-entry-requires
-entry-requires c κs = search needs
+entry-requires c κs = tt
 
 -- src/compare.rt:150:9
 expect-filled-requires : tie.Need-expect-filled-requires
@@ -52,7 +52,7 @@ expect-filled-requires c κs = search needs
 
 -- src/compare.rt:152:9
 differ-requires-2 : tie.Need-differ-requires-2
-differ-requires-2 c κs = search needs
+differ-requires-2 c κs = tt
 
 -- src/compare.rt:152:9
 returns-2 : tie.Need-returns-2

@@ -1,3 +1,4 @@
+use mathlib.Core.Path.{refl}
 use Rattle.rules.specs.Rows.{acyAt}
 use borrow.Author.Needs.{needs}
 use Rattle.rules.proofs.rows.acy.Statement.{statement}
@@ -13,55 +14,55 @@ use Rattle.rules.proofs.uses.both.Reads as both-reads
 
 -- src/rows.rt:55:22
 slice-aggregate-first : tie.Need-slice-aggregate-first
-slice-aggregate-first c = search needs
+slice-aggregate-first c = refl
 
 -- src/rows.rt:55:9
 first-requires : tie.Need-first-requires
-first-requires c κs = search needs
+first-requires c κs = tt
 
 -- src/rows.rt:56:22
 slice-aggregate-first-2 : tie.Need-slice-aggregate-first-2
-slice-aggregate-first-2 c = search needs
+slice-aggregate-first-2 c = refl
 
 -- src/rows.rt:56:9
 first-requires-2 : tie.Need-first-requires-2
-first-requires-2 c κs = search needs
+first-requires-2 c κs = tt
 
 -- src/rows.rt:57:9
 next-requires : tie.Need-next-requires
-next-requires c κs = search needs
+next-requires c κs = tt
 
 -- src/rows.rt:58:9
 next-requires-2 : tie.Need-next-requires-2
-next-requires-2 c κs = search needs
+next-requires-2 c κs = tt
 
 -- src/rows.rt:59:23
 within-requires : tie.Need-within-requires
-within-requires c κs = search needs
+within-requires c κs = tt
 
 -- src/rows.rt:59:37
 within-requires-2 : tie.Need-within-requires-2
-within-requires-2 c κs = search needs
+within-requires-2 c κs = tt
 
 -- src/rows.rt:59:9
 both-requires : tie.Need-both-requires
-both-requires c κs = search needs
+both-requires c κs = tt
 
 -- src/rows.rt:60:23
 agree-requires : tie.Need-agree-requires
-agree-requires c κs = search needs
+agree-requires c κs = tt
 
 -- src/rows.rt:60:64
 agree-requires-2 : tie.Need-agree-requires-2
-agree-requires-2 c κs = search needs
+agree-requires-2 c κs = tt
 
 -- src/rows.rt:60:9
 both-requires-2 : tie.Need-both-requires-2
-both-requires-2 c κs = search needs
+both-requires-2 c κs = tt
 
 -- src/rows.rt:61:5
 answer-requires : tie.Need-answer-requires
-answer-requires c κs = search needs
+answer-requires c κs = tt
 
 -- src/rows.rt:52:1
 returns : tie.Need-returns

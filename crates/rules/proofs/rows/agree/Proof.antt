@@ -17,7 +17,7 @@ same-requires c κs = search needs
 
 -- src/rows.rt:48:5
 within-requires : tie.Need-within-requires
-within-requires c κs = search needs
+within-requires c κs = tt
 
 -- src/rows.rt:44:1
 returns : tie.Need-returns

@@ -13,31 +13,31 @@ use Rattle.rules.proofs.uses.both.Reads as both-reads
 
 -- src/rows.rt:92:9
 next-requires : tie.Need-next-requires
-next-requires c κs = search needs
+next-requires c κs = tt
 
 -- src/rows.rt:93:47
 choose-requires : tie.Need-choose-requires
-choose-requires c κs = search needs
+choose-requires c κs = tt
 
 -- src/rows.rt:93:9
 agree-requires : tie.Need-agree-requires
-agree-requires c κs = search needs
+agree-requires c κs = tt
 
 -- src/rows.rt:94:17
 within-requires : tie.Need-within-requires
-within-requires c κs = search needs
+within-requires c κs = tt
 
 -- src/rows.rt:94:31
 within-requires-2 : tie.Need-within-requires-2
-within-requires-2 c κs = search needs
+within-requires-2 c κs = tt
 
 -- src/rows.rt:94:12
 both-requires : tie.Need-both-requires
-both-requires c κs = search needs
+both-requires c κs = tt
 
 -- src/rows.rt:94:5
 answer-requires : tie.Need-answer-requires
-answer-requires c κs = search needs
+answer-requires c κs = tt
 
 -- src/rows.rt:80:1
 returns : tie.Need-returns

@@ -1,3 +1,4 @@
+use mathlib.Core.Path.{refl}
 use Rattle.rules.specs.Rows.{sameArrowAt}
 use borrow.Author.Needs.{needs}
 use Rattle.rules.proofs.rows.same_arrow.Statement.{statement}
@@ -10,31 +11,31 @@ use Rattle.rules.proofs.shapes.first.Reads as first-reads
 
 -- src/rows.rt:88:30
 slice-aggregate-first : tie.Need-slice-aggregate-first
-slice-aggregate-first c = search needs
+slice-aggregate-first c = refl
 
 -- src/rows.rt:88:21
 first-requires : tie.Need-first-requires
-first-requires c κs = search needs
+first-requires c κs = tt
 
 -- src/rows.rt:88:11
 within-requires : tie.Need-within-requires
-within-requires c κs = search needs
+within-requires c κs = tt
 
 -- src/rows.rt:88:63
 slice-aggregate-first-2 : tie.Need-slice-aggregate-first-2
-slice-aggregate-first-2 c = search needs
+slice-aggregate-first-2 c = refl
 
 -- src/rows.rt:88:54
 first-requires-2 : tie.Need-first-requires-2
-first-requires-2 c κs = search needs
+first-requires-2 c κs = tt
 
 -- src/rows.rt:88:44
 within-requires-2 : tie.Need-within-requires-2
-within-requires-2 c κs = search needs
+within-requires-2 c κs = tt
 
 -- src/rows.rt:88:5
 equal-requires : tie.Need-equal-requires
-equal-requires c κs = search needs
+equal-requires c κs = tt
 
 -- src/rows.rt:85:1
 returns : tie.Need-returns

@@ -1,3 +1,4 @@
+use mathlib.Core.Path.{refl}
 use Rattle.rules.specs.Rows.{scaAt}
 use borrow.Author.Needs.{needs}
 use Rattle.rules.proofs.rows.sca.Statement.{statement}
@@ -13,27 +14,27 @@ use Rattle.rules.proofs.uses.both.Reads as both-reads
 
 -- src/rows.rt:95:23
 slice-aggregate-object : tie.Need-slice-aggregate-object
-slice-aggregate-object c = search needs
+slice-aggregate-object c = refl
 
 -- src/rows.rt:95:32
 slice-aggregate-object-2 : tie.Need-slice-aggregate-object-2
-slice-aggregate-object-2 c = search needs
+slice-aggregate-object-2 c = refl
 
 -- src/rows.rt:95:9
 object-requires : tie.Need-object-requires
-object-requires c κs = search needs
+object-requires c κs = tt
 
 -- src/rows.rt:96:23
 slice-aggregate-object-3 : tie.Need-slice-aggregate-object-3
-slice-aggregate-object-3 c = search needs
+slice-aggregate-object-3 c = refl
 
 -- src/rows.rt:96:32
 slice-aggregate-object-4 : tie.Need-slice-aggregate-object-4
-slice-aggregate-object-4 c = search needs
+slice-aggregate-object-4 c = refl
 
 -- src/rows.rt:96:9
 object-requires-2 : tie.Need-object-requires-2
-object-requires-2 c κs = search needs
+object-requires-2 c κs = tt
 
 -- src/rows.rt:97:24
 same-arrow-requires : tie.Need-same-arrow-requires
@@ -41,23 +42,23 @@ same-arrow-requires c κs = search needs
 
 -- src/rows.rt:97:9
 calls-requires : tie.Need-calls-requires
-calls-requires c κs = search needs
+calls-requires c κs = tt
 
 -- src/rows.rt:98:17
 within-requires : tie.Need-within-requires
-within-requires c κs = search needs
+within-requires c κs = tt
 
 -- src/rows.rt:98:31
 within-requires-2 : tie.Need-within-requires-2
-within-requires-2 c κs = search needs
+within-requires-2 c κs = tt
 
 -- src/rows.rt:98:12
 both-requires : tie.Need-both-requires
-both-requires c κs = search needs
+both-requires c κs = tt
 
 -- src/rows.rt:98:5
 answer-requires : tie.Need-answer-requires
-answer-requires c κs = search needs
+answer-requires c κs = tt
 
 -- src/rows.rt:92:1
 returns : tie.Need-returns

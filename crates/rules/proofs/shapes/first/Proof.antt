@@ -9,11 +9,11 @@ use Rattle.rules.proofs.shapes.positive.Reads as positive-reads
 
 -- src/shapes.rt:26:13
 positive-requires : tie.Need-positive-requires
-positive-requires c κs = search needs
+positive-requires c κs = tt
 
 -- src/shapes.rt:26:5
 word-requires : tie.Need-word-requires
-word-requires c κs = search needs
+word-requires c κs = tt
 
 -- src/shapes.rt:23:1
 returns : tie.Need-returns

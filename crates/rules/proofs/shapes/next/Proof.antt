@@ -1,3 +1,4 @@
+use mathlib.Core.Path.{refl}
 use Rattle.rules.specs.Shapes.{nextAt, skipAt, stripAt}
 use borrow.Author.Needs.{needs}
 use Rattle.rules.proofs.shapes.next.Statement.{statement}
@@ -9,15 +10,15 @@ use Rattle.reader.proofs.words.word.Reads as word-reads
 
 -- src/shapes.rt:12:13
 skip-requires : tie.Need-skip-requires
-skip-requires c κs = search needs
+skip-requires c κs = tt
 
 -- src/shapes.rt:12:26
 slice-aggregate-word : tie.Need-slice-aggregate-word
-slice-aggregate-word c = search needs
+slice-aggregate-word c = refl
 
 -- src/shapes.rt:12:5
 word-requires : tie.Need-word-requires
-word-requires c κs = search needs
+word-requires c κs = tt
 
 -- src/shapes.rt:9:1
 returns : tie.Need-returns

@@ -1,3 +1,4 @@
+use mathlib.Core.Path.{refl}
 use Rattle.rules.specs.Shapes.{positiveAt, stripAt}
 use borrow.Author.Needs.{needs}
 use Rattle.rules.proofs.shapes.positive.Statement.{statement}
@@ -8,11 +9,11 @@ use Rattle.reader.proofs.words.word.Reads as word-reads
 
 -- src/shapes.rt:19:17
 slice-aggregate-word : tie.Need-slice-aggregate-word
-slice-aggregate-word c = search needs
+slice-aggregate-word c = refl
 
 -- src/shapes.rt:19:5
 word-requires : tie.Need-word-requires
-word-requires c κs = search needs
+word-requires c κs = tt
 
 -- src/shapes.rt:16:1
 returns : tie.Need-returns

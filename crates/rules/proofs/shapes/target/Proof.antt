@@ -1,4 +1,4 @@
-use mathlib.Core.Path.{_≡_}
+use mathlib.Core.Path.{_≡_, refl}
 use Rattle.logic.specs.declared.Rule.the-variants.{Refl, Res, Fac, Par, Acy, Tra, Inc, Inh, Inp, Out, Sca, Eli}
 use Rattle.rules.specs.Shapes.{targetAt, argumentAt}
 use borrow.Author.Needs.{needs}
@@ -18,15 +18,15 @@ enum-told c = search needs
 
 -- src/shapes.rt:63:39
 slice-aggregate-first : tie.Need-slice-aggregate-first
-slice-aggregate-first c = search needs
+slice-aggregate-first c = refl
 
 -- src/shapes.rt:63:30
 first-requires : tie.Need-first-requires
-first-requires c κs = search needs
+first-requires c κs = tt
 
 -- src/shapes.rt:63:22
 next-requires : tie.Need-next-requires
-next-requires c κs = search needs
+next-requires c κs = tt
 
 -- src/shapes.rt:64:39
 enum-told-2 : tie.Need-enum-told-2
@@ -34,15 +34,15 @@ enum-told-2 c = search needs
 
 -- src/shapes.rt:64:39
 slice-aggregate-first-2 : tie.Need-slice-aggregate-first-2
-slice-aggregate-first-2 c = search needs
+slice-aggregate-first-2 c = refl
 
 -- src/shapes.rt:64:30
 first-requires-2 : tie.Need-first-requires-2
-first-requires-2 c κs = search needs
+first-requires-2 c κs = tt
 
 -- src/shapes.rt:64:22
 next-requires-2 : tie.Need-next-requires-2
-next-requires-2 c κs = search needs
+next-requires-2 c κs = tt
 
 -- src/shapes.rt:65:32
 enum-told-3 : tie.Need-enum-told-3
@@ -50,15 +50,15 @@ enum-told-3 c = search needs
 
 -- src/shapes.rt:65:32
 slice-aggregate-object : tie.Need-slice-aggregate-object
-slice-aggregate-object c = search needs
+slice-aggregate-object c = refl
 
 -- src/shapes.rt:65:41
 slice-aggregate-object-2 : tie.Need-slice-aggregate-object-2
-slice-aggregate-object-2 c = search needs
+slice-aggregate-object-2 c = refl
 
 -- src/shapes.rt:65:22
 object-requires : tie.Need-object-requires
-object-requires c κs = search needs
+object-requires c κs = tt
 
 -- src/shapes.rt:66:60
 enum-told-4 : tie.Need-enum-told-4
@@ -66,27 +66,27 @@ enum-told-4 c = search needs
 
 -- src/shapes.rt:66:60
 slice-aggregate-object-3 : tie.Need-slice-aggregate-object-3
-slice-aggregate-object-3 c = search needs
+slice-aggregate-object-3 c = refl
 
 -- src/shapes.rt:66:69
 slice-aggregate-object-4 : tie.Need-slice-aggregate-object-4
-slice-aggregate-object-4 c = search needs
+slice-aggregate-object-4 c = refl
 
 -- src/shapes.rt:66:50
 object-requires-2 : tie.Need-object-requires-2
-object-requires-2 c κs = search needs
+object-requires-2 c κs = tt
 
 -- src/shapes.rt:66:42
 next-requires-3 : tie.Need-next-requires-3
-next-requires-3 c κs = search needs
+next-requires-3 c κs = tt
 
 -- src/shapes.rt:66:34
 next-requires-4 : tie.Need-next-requires-4
-next-requires-4 c κs = search needs
+next-requires-4 c κs = tt
 
 -- src/shapes.rt:66:22
 argument-requires : tie.Need-argument-requires
-argument-requires c κs = search needs
+argument-requires c κs = tt
 
 -- src/shapes.rt:67:42
 enum-told-5 : tie.Need-enum-told-5
@@ -94,19 +94,19 @@ enum-told-5 c = search needs
 
 -- src/shapes.rt:67:42
 slice-aggregate-object-5 : tie.Need-slice-aggregate-object-5
-slice-aggregate-object-5 c = search needs
+slice-aggregate-object-5 c = refl
 
 -- src/shapes.rt:67:51
 slice-aggregate-object-6 : tie.Need-slice-aggregate-object-6
-slice-aggregate-object-6 c = search needs
+slice-aggregate-object-6 c = refl
 
 -- src/shapes.rt:67:32
 object-requires-3 : tie.Need-object-requires-3
-object-requires-3 c κs = search needs
+object-requires-3 c κs = tt
 
 -- src/shapes.rt:67:22
 result-requires : tie.Need-result-requires
-result-requires c κs = search needs
+result-requires c κs = tt
 
 -- src/shapes.rt:68:23
 enum-told-6 : tie.Need-enum-told-6

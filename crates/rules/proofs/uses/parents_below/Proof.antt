@@ -10,23 +10,23 @@ use Rattle.rules.proofs.uses.used.Reads as used-reads
 
 -- src/uses.rt:79:21
 used-requires : tie.Need-used-requires
-used-requires c κs = search needs
+used-requires c κs = tt
 
 -- src/uses.rt:79:10
 below-requires : tie.Need-below-requires
-below-requires c κs = search needs
+below-requires c κs = tt
 
 -- src/uses.rt:79:51
 used-requires-2 : tie.Need-used-requires-2
-used-requires-2 c κs = search needs
+used-requires-2 c κs = tt
 
 -- src/uses.rt:79:40
 below-requires-2 : tie.Need-below-requires-2
-below-requires-2 c κs = search needs
+below-requires-2 c κs = tt
 
 -- src/uses.rt:79:5
 both-requires : tie.Need-both-requires
-both-requires c κs = search needs
+both-requires c κs = tt
 
 -- src/uses.rt:76:1
 returns : tie.Need-returns

@@ -18,7 +18,7 @@ returns : tie.Need-returns
 returns c = past-columns _ _ (c .if1 .taken)
 
 row-requires : tie.Need-row-requires
-row-requires c κs = search needs
+row-requires c κs = tt
 
 mul-result : tie.Need-mul-result
 mul-result c = omega (arith, row-below (c .before .before .args .rule))
