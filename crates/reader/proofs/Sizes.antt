@@ -1,17 +1,18 @@
 -- Lines counted and found in a text.
-use Prim.Native.Nat.{ℕ, suc, _+_, _≤_, _<_}
+use Prim.Native.Nat.{ℕ, suc, _+_, _-_, _≤_, _<_}
+use mathlib.Core.Logic.{_↔_}
 use mathlib.Core.Path.{_≡_, refl, _∙_, ap}
 use mathlib.Core.Bool.{Bool, true, false, cond}
 use mathlib.Core.List.{List, [], _∷_, _++_}
 use native.Mathlib.Omega.{arith}
-use borrow.Author.Tests.{eq-eqb, ne-eqb}
-use lib.Dec.{T, eqb, eqb→eq}
-use lib.ListN.{length, getD, take, drop}
+use borrow.Author.Tests.{eq-eqb, ne-eqb, lt-ltb}
+use lib.Dec.{T, eqb, eqb→eq, ltb→lt, lt→ltb}
+use lib.ListN.{length, getD, take, drop, length-drop}
 use lib.Seq.{take-all}
 use native.Mathlib.Nat.{suc-add}
 use Rattle.reader.specs.Words.{lineEnd}
 use Rattle.reader.specs.Split.{Raw, ended, unended, push, split}
-use Rattle.reader.specs.Size.{lineLength}
+use Rattle.reader.specs.Size.{lineLength, lineEndAt, endedAt}
 use Rattle.reader.proofs.Tests.{T-and, onTest}
 use Rattle.reader.proofs.Plain.{unbroken}
 use Rattle.reader.proofs.Places.{at-byte, past}
@@ -78,3 +79,11 @@ split-at bs h = ap split (line-rest bs h) ∙ split-line (take (lineLength bs) b
 
 pub split-over : (b : ℕ) (bs : List ℕ) → length (b ∷ bs) ≤ lineLength (b ∷ bs) → split (b ∷ bs) ≡ unended (b ∷ bs) ∷ []
 split-over b bs h = split-end b bs (rw (take-all (lineLength (b ∷ bs)) (b ∷ bs) h) at (line-front (b ∷ bs)))
+
+-- A line is ended exactly when its bytes are fewer than those left: so `split-at` says what it is, and else `split-over`.
+pub ended-length : (text : List ℕ) (at : ℕ) → at < length text → T (endedAt text at) ↔ (lineLength (drop at text) < length (drop at text))
+unfolding endedAt lineEndAt
+ended-length text at h =
+    let e : length (drop at text) ≡ length text - at = length-drop at text in
+    rw (lt-ltb at (length text) h)
+    (λ t. let w = ltb→lt (at + lineLength (drop at text)) (length text) t in omega arith, λ w. lt→ltb (at + lineLength (drop at text)) (length text) (omega arith))

@@ -19,6 +19,11 @@ lineLength (b ∷ bs) =
 unfoldable pub lineEndAt : List ℕ → ℕ → ℕ
 lineEndAt text at = cond (ltb at (length text)) (at + lineLength (drop at text)) (length text)
 
+-- "each line ended by byte 10. ... Bytes after the last line end form one more line, which isn't a form": whether the line that begins at a
+-- place is ended.
+unfoldable pub endedAt : List ℕ → ℕ → Bool
+endedAt text at = ltb (lineEndAt text at) (length text)
+
 abbrev pub lineCount : List ℕ → ℕ
 lineCount text = length (split text)
 

@@ -2,7 +2,7 @@
 ghost use mathlib.Core.Path.{_≡_};
 ghost use lib.ListN.{drop};
 ghost use Rattle.reader.specs.Figures.{office};
-ghost use Rattle.reader.specs.Size.{lineEndAt, lineCount, tooLarge};
+ghost use Rattle.reader.specs.Size.{lineEndAt, lineCount, tooLarge, endedAt};
 
 // The place of the first line end at or after `at`, or the end of the text.
 pub fn line_end(text: &[u8], at: usize) -> usize
@@ -58,4 +58,12 @@ pub fn clause_part(text: &[u8], start: usize) -> &[u8]
     let n = text.len();
     let from = if start < n { start } else { n };
     &text[from..]
+}
+
+// Whether the line that begins at `at` is ended: bytes after the last line end are a line that isn't a form.
+pub fn line_ended(text: &[u8], at: usize) -> bool
+    ensures { λ r. ⌜ r ≡ endedAt (now (text .entry)) at ⌝ }
+{
+    let end = line_end(text, at);
+    end < text.len()
 }
