@@ -3,3 +3,4 @@ pub mod Filled
 pub mod Shapes
 pub mod Claims
 pub mod Rows
+pub mod Covering

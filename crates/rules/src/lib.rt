@@ -1,6 +1,7 @@
-pub mod rows;
-pub mod shapes;
-pub mod uses;
 // The rules: checks 7 to 11. Their definitions are in specs/, their laws in proofs/.
 pub mod claims;
 pub mod compare;
+pub mod covering;
+pub mod rows;
+pub mod shapes;
+pub mod uses;

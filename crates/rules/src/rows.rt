@@ -18,7 +18,7 @@ pub fn within(p: &[u8], x: usize) -> bool
     x <= p.len()
 }
 
-fn answer(shaped: bool, agrees: bool) -> Judged
+pub fn answer(shaped: bool, agrees: bool) -> Judged
     ensures { λ r. ⌜ r ≡ answerOf shaped agrees ⌝ }
 {
     if shaped {
@@ -85,7 +85,7 @@ pub fn acy(
 }
 
 // The same arrow, object, method and arguments, the objects at x and y.
-fn calls(
+pub fn calls(
     arrows: bool,
     p: &[u8],
     x: usize,

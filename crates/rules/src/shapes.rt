@@ -27,7 +27,7 @@ pub fn first(p: &[u8], head: &[u8], at: usize) -> usize
     word(p, positive(p, at), head)
 }
 
-fn or_else(p: &[u8], x: usize, y: usize) -> usize
+pub fn or_else(p: &[u8], x: usize, y: usize) -> usize
     ensures { λ r. ⌜ r ≡ orElse (now (p .entry)) x y ⌝ }
 {
     if x <= p.len() { x } else { y }
