@@ -4,3 +4,4 @@ pub mod Shapes
 pub mod Claims
 pub mod Rows
 pub mod Covering
+pub mod Table

@@ -4,4 +4,5 @@ pub mod compare;
 pub mod covering;
 pub mod rows;
 pub mod shapes;
+pub mod table;
 pub mod uses;
