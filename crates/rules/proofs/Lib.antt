@@ -17,3 +17,4 @@ pub mod Occurring
 pub mod Spots
 pub mod Placed
 pub mod LineLists
+pub mod Meets

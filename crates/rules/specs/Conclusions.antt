@@ -1,0 +1,56 @@
+-- Check 11 in bytes: the fourth column of the rule table, and the claim as a whole. Each answers the place in the line past what it expects.
+use Prim.Native.Nat.{ℕ}
+use mathlib.Core.Bool.{Bool, true, false, cond}
+use mathlib.Core.List.{List}
+use lib.ListN.{drop}
+use Rattle.logic.specs.declared.Rule.{Rule}
+use Rattle.logic.specs.declared.Rule.the-variants.{Refl, Res, Fac, Par, Acy, Tra, Inc, Inh, Inp, Out, Sca, Eli}
+use Rattle.reader.specs.Words.{bytes}
+use Rattle.reader.specs.Places.{endOf}
+use Rattle.reader.specs.Access.{toOccurrence}
+use Rattle.rules.specs.Shapes.{stripAt, nextAt, firstAt, resultAt, objectAt, targetAt}
+use Rattle.rules.specs.Claims.{rewrittenAt, linkedAt, othersAt}
+
+-- "refl | + sub(T,T)": T is what variable 0 becomes.
+unfoldable pub reflNewAt : List ℕ → List ℕ → ℕ → ℕ
+reflNewAt line starts pos = linkedAt (bytes " (+ (sub ") (bytes "(v 0)") 0 line starts (bytes "(v 0)") 0 starts pos
+
+-- "acy | + eq(P,Q)"
+unfoldable pub acyNewAt : List ℕ → ℕ → List ℕ → List ℕ → ℕ → ℕ
+acyNewAt p i line starts pos =
+    let x = firstAt p (bytes "(sub ") i in
+    linkedAt (bytes " (+ (eq ") p x line starts p (nextAt p x) starts pos
+
+-- "sca | + eq(R,R')"
+unfoldable pub scaNewAt : List ℕ → ℕ → List ℕ → List ℕ → List ℕ → ℕ → List ℕ → ℕ → ℕ
+scaNewAt p i line starts q j others pos =
+    let x = resultAt p (objectAt p (bytes "(sv ") (bytes "(si ") i) in
+    let y = resultAt q (objectAt q (bytes "(sv ") (bytes "(si ") j) in
+    linkedAt (bytes " (+ (eq ") p x line starts q y others pos
+
+-- A rewriting rule: the literal at I with the other side of the link whose first term is at y in place of the term at x.
+unfoldable pub rewriteNewAt : List ℕ → ℕ → ℕ → List ℕ → List ℕ → List ℕ → ℕ → Bool → List ℕ → ℕ → ℕ
+rewriteNewAt p i x line starts q y forward others pos = rewrittenAt p i x line starts q (cond forward (nextAt q y) y) others pos
+
+unfoldable pub parNewAt : ℕ → List ℕ → ℕ → List ℕ → List ℕ → List ℕ → ℕ → List ℕ → ℕ → ℕ
+parNewAt k p i line starts q j others pos =
+    rewriteNewAt p i (endOf p (toOccurrence k (drop i p))) line starts q (firstAt q (bytes "(eq ") j) true others pos
+
+unfoldable pub subNewAt : Rule → Bool → ℕ → List ℕ → ℕ → List ℕ → List ℕ → List ℕ → ℕ → List ℕ → ℕ → ℕ
+subNewAt rule forward k p i line starts q j others pos =
+    rewriteNewAt p i (targetAt p rule k i) line starts q (firstAt q (bytes "(sub ") j) forward others pos
+
+-- The fourth column: the new literal, if any, after a space.
+unfoldable pub newAt : Rule → ℕ → List ℕ → ℕ → List ℕ → List ℕ → List ℕ → ℕ → List ℕ → ℕ → ℕ
+newAt Refl k p i line starts q j others pos = reflNewAt line starts pos
+newAt Res k p i line starts q j others pos = pos
+newAt Fac k p i line starts q j others pos = pos
+newAt Par k p i line starts q j others pos = parNewAt k p i line starts q j others pos
+newAt Acy k p i line starts q j others pos = acyNewAt p i line starts pos
+newAt Tra k p i line starts q j others pos = subNewAt Tra true k p i line starts q j others pos
+newAt Inc k p i line starts q j others pos = subNewAt Inc true k p i line starts q j others pos
+newAt Inh k p i line starts q j others pos = subNewAt Inh false k p i line starts q j others pos
+newAt Inp k p i line starts q j others pos = subNewAt Inp false k p i line starts q j others pos
+newAt Out k p i line starts q j others pos = subNewAt Out true k p i line starts q j others pos
+newAt Sca k p i line starts q j others pos = scaNewAt p i line starts q j others pos
+newAt Eli k p i line starts q j others pos = pos
