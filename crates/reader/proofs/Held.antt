@@ -19,7 +19,7 @@ use Rattle.reader.specs.declared.states.Read.{Read}
 use Rattle.reader.specs.declared.forms.LineAt.{LineAt}
 use Rattle.reader.specs.Write.{putClause}
 use Rattle.reader.specs.Read.{Reading, form, noForm, readLine}
-use Rattle.reader.specs.Form.{formedClause, formedStep, formedLine}
+use Rattle.reader.specs.Form.{formedNumber, formedTerms, formedClause, formedStep, formedLine}
 use Rattle.reader.specs.Figures.{office}
 use Rattle.reader.specs.State.{State, fresh, claimOf, clauses, advance, isEmpty, ordered, hasConstant, constantReady, clauseFits, listFits, withinLimits, symbolsDeclared, lineFailure, after}
 use Rattle.reader.specs.Summary.{joined, termsMeasure, clauseMeasure}
@@ -163,7 +163,8 @@ module _ {text : List ℕ} {held : code.State} {st : State} (R : Represents text
   unfolding formedLine formedStep withinLimits
   step-fits s e =
       let w = line-fits (by s) e in
-      (right _ (formedClause 16 (s .claim)) (w .0), right (listFits office (s .second)) _ (right (listFits office (s .first)) _ (w .1)))
+      let numbers = formedNumber (s .a) && formedNumber (s .i) && formedNumber (s .b) && formedNumber (s .j) && formedNumber (s .k) in
+      (right (numbers && formedTerms 16 (s .first) && formedTerms 16 (s .second)) (formedClause 16 (s .claim)) (w .0), right (listFits office (s .second)) _ (right (listFits office (s .first)) _ (w .1)))
 
   -- an in line comes while there is no step
   unstepped : (c : Clause) → readLine 16 bytes ≡ form (input c) → T (isEmpty (st .steps))
