@@ -18,3 +18,5 @@ pub mod Spots
 pub mod Placed
 pub mod LineLists
 pub mod Meets
+pub mod NumberedFill
+pub mod RowExamples
