@@ -19,4 +19,5 @@ pub mod Placed
 pub mod LineLists
 pub mod Meets
 pub mod NumberedFill
+pub mod TermsMeet
 pub mod RowExamples
