@@ -20,4 +20,5 @@ pub mod LineLists
 pub mod Meets
 pub mod NumberedFill
 pub mod TermsMeet
+pub mod RowsMeet
 pub mod RowExamples

@@ -1,5 +1,5 @@
 -- Terms of written literals: when two agree, and a new literal of two of them.
-use Prim.Native.Nat.{ℕ, zero, suc, _+_, _≤_, _<_}
+use Prim.Native.Nat.{ℕ, _≤_, _<_, max}
 use mathlib.Core.Bool.{Bool, true, false, _&&_}
 use mathlib.Core.List.{List, [], _∷_, _++_}
 use mathlib.Core.Logic.{_↔_}
@@ -9,27 +9,29 @@ use lib.Dec.{T}
 use lib.ListN.{length, drop}
 use Rattle.logic.specs.declared.Sign.the-variants.{Positive}
 use Rattle.logic.specs.declared.Link.{Link}
+use Rattle.logic.specs.declared.Arrow.{Arrow}
 use Rattle.logic.specs.declared.Rule.{Rule}
 use Rattle.logic.specs.declared.Judged.the-variants.{Misshapen}
-use Rattle.logic.specs.Syntax.{Term, var, app, Terms, Atom, link, Literal, lit, Clause}
+use Rattle.logic.specs.Syntax.{Term, var, app, Terms, nil, cons, Result, value, link, method, Clause}
+use Rattle.logic.specs.Terms.{join, resultTerms, termsOf}
 use Rattle.logic.specs.Each.{termWidth, termsWidth}
 use Rattle.logic.specs.Fill.{Substitution, fill, fills}
 use Rattle.logic.specs.Rules.{Agreement, plus}
 use Rattle.logic.specs.Judge.{Conclusion, misshapen, concludes}
 use Rattle.logic.proofs.Both.{right}
 use Rattle.reader.specs.Words.{bytes, linkWord}
-use Rattle.reader.specs.Write.{word, putTerm, putArguments, putAtom, putLiteral, putLiterals}
-use Rattle.reader.specs.Form.{depthOf, depthOfs, numbered, numbereds, formedTerm, formedTerms}
+use Rattle.reader.specs.Write.{word, putTerm, putArguments, putResult, putAtom, putLiteral, putLiterals}
+use Rattle.reader.specs.Form.{depthOf, depthOfs, numbered, numbereds, formedTerm, formedTerms, formedResult, formedAtom}
 use Rattle.reader.proofs.Plain.{in-front, term-plain}
 use Rattle.reader.proofs.Tests.{T-and}
 use Rattle.rules.specs.Filled.{fillItem, replacing, matches, endsOf}
-use Rattle.rules.specs.Shapes.{stripAt, nextAt}
+use Rattle.rules.specs.Shapes.{stripAt, nextAt, resultAt}
 use Rattle.rules.specs.Claims.{filledAt, linkedAt}
 use Rattle.rules.specs.Rows.{agreeAt, callsAt}
 use Rattle.rules.specs.Table.{rowAt}
 use Rattle.rules.specs.Conclusions.{newAt}
 use Rattle.rules.proofs.Filling.{after-it, fill-term}
-use Rattle.rules.proofs.Placing.{Stands}
+use Rattle.rules.proofs.Placing.{Stands, fromMethod, next-term, result-stands}
 use Rattle.rules.proofs.Claimed.{Entries, strip-chain, match-place}
 use Rattle.rules.proofs.Agreed.{terms-agree, arguments-agree}
 use Rattle.rules.proofs.Answered.{judgedOf}
@@ -48,6 +50,38 @@ pub record ArgumentsAt (p : List ℕ) (at : ℕ) (w : ℕ) (ts : Terms) : Type 0
   pub stands : Stands p at (putArguments ts rest)
   pub formed : T (formedTerms 16 ts)
   pub narrow : termsWidth ts ≤ w
+
+join-width : (ts us : Terms) → termsWidth (join ts us) ≡ max (termsWidth ts) (termsWidth us)
+unfolding join termWidth
+join-width nil us = omega arith
+join-width (cons t ts) us = let e = join-width ts us in omega arith
+
+-- Object, method and arguments of an arrow atom, the object at x.
+pub record CallAt (p : List ℕ) (x : ℕ) (w : ℕ) (o m : Term) (ts : Terms) : Type 0 where
+  pub object : TermAt p x w o
+  pub method : TermAt p (nextAt p x) w m
+  pub arguments : ArgumentsAt p (nextAt p (nextAt p x)) w ts
+
+pub call-stands : {p : List ℕ} {x : ℕ} {w : ℕ} (a : Arrow) (o m : Term) (ts : Terms) (r : Result) (rest : List ℕ) → Stands p x (putTerm o (word " " (fromMethod p m ts r rest))) →
+    T (formedAtom 16 (method a o m ts r)) → termsWidth (termsOf (method a o m ts r)) ≤ w → CallAt p x w o m ts
+unfolding formedAtom termsOf termWidth
+call-stands {p} a o m ts r rest s f h =
+    let (((fo, fm), fs), _) = simp T-and at f in
+    let second = next-term p o s in
+    let k = join-width ts (resultTerms r) in
+    record {
+      object = record { rest = _; stands = s; formed = fo; narrow = omega arith };
+      method = record { rest = _; stands = second; formed = fm; narrow = omega arith };
+      arguments = record { rest = _; stands = next-term p m second; formed = fs; narrow = omega arith };
+    }
+
+pub result-at : {p : List ℕ} {x : ℕ} {w : ℕ} (a : Arrow) (o m : Term) (ts : Terms) (r : Term) (rest : List ℕ) → Stands p x (putTerm o (word " " (fromMethod p m ts (value r) rest))) →
+    T (formedAtom 16 (method a o m ts (value r))) → termsWidth (termsOf (method a o m ts (value r))) ≤ w → TermAt p (resultAt p x) w r
+unfolding formedAtom formedResult termsOf resultTerms termWidth putResult
+result-at {p} a o m ts r rest s f h =
+    let (_, fr) = simp T-and at f in
+    let k = join-width ts (resultTerms (value r)) in
+    record { rest = _; stands = result-stands p o m ts (value r) rest s; formed = fr; narrow = omega arith }
 
 term-numbered : (line starts : List ℕ) (σ : Substitution) (w : ℕ) → Images line starts σ w → (t : Term) → T (formedTerm 16 t) → termWidth t ≤ w → T (numbered (fill σ t))
 unfolding formedTerm
@@ -69,6 +103,17 @@ module _ {line starts others : List ℕ} {σ τ : Substitution} {v w : ℕ} (g :
       arguments-agree p q line starts others σ τ v w (g .entry) (h .entry) ts us (a .rest) (b .rest) (a .stands) (b .stands)
       (terms-deeper 16 18 ts (omega arith) (a .formed)) (terms-deeper 16 18 us (omega arith) (b .formed)) (a .narrow) (b .narrow)
       (terms-numbered line starts σ v g ts (a .formed) (a .narrow)) (terms-numbered line others τ w h us (b .formed) (b .narrow))
+
+  pub calls-meet : (b : Bool) {x y : ℕ} {o m o′ m′ : Term} {ts ts′ : Terms} → CallAt p x v o m ts → CallAt q y w o′ m′ ts′ →
+      T (callsAt b p x line starts q y others) ↔ (T b × (fill σ o ≡ fill τ o′) × (fill σ m ≡ fill τ m′) × (fills σ ts ≡ fills τ ts′))
+  unfolding callsAt
+  calls-meet b a c =
+      let first = term-meets (a .object) (c .object) in
+      let second = term-meets (a .method) (c .method) in
+      let third = arguments-meet (a .arguments) (c .arguments) in (
+        λ h. let ((i, j), (k, l)) = simp T-and at h in (i, first .0 j, second .0 k, third .0 l),
+        λ h. simp T-and ((h .0, first .1 (h .1)), (second .1 (h .2), third .1 (h .3))),
+      )
 
 -- A filled term, expected in the line.
 pub term-claimed : (line starts : List ℕ) (σ : Substitution) (w : ℕ) → Entries line starts σ w → {p : List ℕ} {at : ℕ} {t : Term} → TermAt p at w t → (pos : ℕ) →
