@@ -190,6 +190,34 @@ module _ (p : List ℕ) where
     scalar-view (lit Positive (method Mt o m ts r)) a =
         no-scalar (other-scalar (method Mt o m ts r) (word ")" (a .rest)) (λ w. omega arith) (λ w. omega arith) (positive-stands p (method Mt o m ts r) (a .rest) (a .stands))) (λ f. refl)
 
+-- Two arrow atoms alike but for their results.
+calls : (a a′ : Arrow) (o m o′ m′ : Term) (ts ts′ : Terms) → (method a o m ts none ≡ method a′ o′ m′ ts′ none) ↔ ((a ≡ a′) × (o ≡ o′) × (m ≡ m′) × (ts ≡ ts′))
+calls a a′ o m o′ m′ ts ts′ = (λ e. (cc, cc, cc, cc), λ d. let e = d .0 in let f = d .1 in let g = d .2 in let h = d .3 in cc)
+
+module _ {line starts others : List ℕ} {σ τ : Substitution} {v w : ℕ} (g : Images line starts σ v) (h : Images line others τ w) (k : ℕ) (p q : List ℕ) (i j : ℕ) where
+  pub sca-meets : (l m : Literal) → LiteralAt p i v l → LiteralAt q j w m → Meets Sca k p i line starts q j others (tableRow k Sca (fillLiteral σ l) (fillLiteral τ m))
+  unfolding tableRow conclude-sca rowAt scaAt sameArrowAt newAt scaNewAt Holds
+  sca-meets l m a b = go (scalar-view p i v σ l a) (scalar-view q j w τ m b)
+    where
+      go : ScalarView p i (objectAt p (head 4) (head 5) i) σ v (onScalar (fillLiteral σ l)) → ScalarView q j (objectAt q (head 4) (head 5) j) τ w (onScalar (fillLiteral τ m)) →
+          Meets Sca k p i line starts q j others (conclude-sca (fillLiteral σ l) (fillLiteral τ m))
+      go (no-scalar e n) d = missing _ (n _) (first-past p q _ _ e)
+      go (a-scalar a o m ts r s c d e) (no-scalar f n) = missing _ (e _ ∙ n _) (second-past p q _ _ f)
+      go (a-scalar a o m ts r s c d e) (a-scalar a′ o′ m′ ts′ r′ s′ c′ d′ f) =
+          let arrows = same-arrow s s′ in
+          let agree = calls-meet g h (sameArrowAt p i q j) c c′ in
+          let two = calls a a′ (fill σ o) (fill σ m) (fill τ o′) (fill τ m′) (fills σ ts) (fills τ ts′) in
+          concluding _ (alike (method a (fill σ o) (fill σ m) (fills σ ts) none) (method a′ (fill τ o′) (fill τ m′) (fills τ ts′) none)) (plus (link Eq (fill σ r) (fill τ r′)) ∷ []) (e _ ∙ f _)
+          (rw (both-within p q (c .object .stands .within) (c′ .object .stands .within)) (right-shape _ _ _ (
+            λ z. let x = agree .0 z in two .1 (arrows .0 (x .0), x .1, x .2, x .3),
+            λ z. let x = two .0 z in agree .1 (arrows .1 (x .0), x .1, x .2, x .3),
+          )))
+          (linked-claimed g h d d′ Eq (bytes " (+ (eq ") (λ rest. refl))
+
+past-scalar-object : (p : List ℕ) (i : ℕ) → i ≡ length p + 1 → objectAt p (bytes "(sv ") (bytes "(si ") i ≡ length p + 1
+unfolding objectAt
+past-scalar-object p i e = rw (e, past-positive p) (past-scalar p)
+
 past-sub : (p : List ℕ) (i : ℕ) → i ≡ length p + 1 → nextAt p (firstAt p (bytes "(sub ") i) ≡ length p + 1
 unfolding firstAt
 past-sub p i e = rw (e, past-positive p) (past-link p Sub)
@@ -200,3 +228,8 @@ module _ (k : ℕ) (p : List ℕ) (i : ℕ) (line starts q : List ℕ) (j : ℕ)
   unfolding rowAt acyAt
   acy-past (inl e) = first-past p q _ _ (past-sub p i e)
   acy-past (inr e) = second-past p q _ _ (past-sub q j e)
+
+  pub sca-past : (i ≡ length p + 1) ⊎ (j ≡ length q + 1) → rowAt Sca k p i line starts q j others ≡ Misshapen
+  unfolding rowAt scaAt
+  sca-past (inl e) = first-past p q _ _ (past-scalar-object p i e)
+  sca-past (inr e) = second-past p q _ _ (past-scalar-object q j e)
