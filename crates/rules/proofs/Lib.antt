@@ -21,4 +21,5 @@ pub mod Meets
 pub mod NumberedFill
 pub mod TermsMeet
 pub mod RowsMeet
+pub mod CoversMeet
 pub mod RowExamples
