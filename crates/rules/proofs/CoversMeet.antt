@@ -1,13 +1,12 @@
 -- An atom covers another in bytes exactly if it does, both filled.
 use Prim.Native.Nat.{ℕ, _+_, _≤_, _<_}
-use mathlib.Core.Bool.{Bool, true, false, cond, not, _&&_, _||_, true≢false}
-use mathlib.Core.List.{List, [], _∷_, _++_}
+use mathlib.Core.Bool.{Bool, true, false, _||_, true≢false}
+use mathlib.Core.List.{List, [], _++_}
 use mathlib.Core.Logic.{_⊎_, inl, inr, ⊎-elim, _↔_}
-use mathlib.Core.Path.{_≡_, refl, sym, ap, subst, _∙_}
+use mathlib.Core.Path.{_≡_, refl, sym, ap, _∙_}
 use native.Mathlib.Omega.{arith}
-use lib.Dec.{T, eqb}
-use lib.ListN.{length, take, drop}
-use Rattle.logic.specs.declared.Link.{Link}
+use lib.Dec.{T}
+use lib.ListN.{length, take}
 use Rattle.logic.specs.declared.Link.the-variants.{Eq, Mem, Sub}
 use Rattle.logic.specs.declared.Arrow.{Arrow}
 use Rattle.logic.specs.declared.Arrow.the-variants.{Sv, Si, Mv, Mi, St, Mt}
@@ -15,27 +14,27 @@ use Rattle.logic.specs.Syntax.{Term, var, app, Terms, Result, value, none, mayB
 use Rattle.logic.specs.Terms.{termsOf}
 use Rattle.logic.specs.Equality.{arrow?, arrowAt, arrowNumber, arrow-back}
 use Rattle.logic.specs.Each.{termsWidth}
-use Rattle.logic.specs.Fill.{Substitution, fill, fills, fillResult, fillAtom}
+use Rattle.logic.specs.Fill.{Substitution, fillResult, fillAtom}
 use Rattle.logic.specs.Rules.{bareResult, bare, Covers}
 use Rattle.reader.specs.Words.{bytes}
 use Rattle.reader.specs.Write.{word, putTerm, putResult, putAtom}
 use Rattle.reader.specs.Read.{bad, got, strip}
-use Rattle.reader.specs.Access.{closing, skipItem}
+use Rattle.reader.specs.Access.{skipItem}
 use Rattle.reader.specs.Form.{formedResult, formedAtom}
-use Rattle.reader.specs.Heads.{linkKind, arrowKind, kindNumber, head}
+use Rattle.reader.specs.Heads.{arrowKind, kindNumber, head}
 use Rattle.reader.proofs.Heads.{afterHead, strip-same}
 use Rattle.reader.proofs.Nesting.{skip-term}
 use Rattle.reader.proofs.Tests.{T-and, holds}
 use Rattle.rules.specs.Shapes.{stripAt, skipAt, nextAt, resultAt}
 use Rattle.rules.specs.Rows.{within, agreeAt, callsAt}
 use Rattle.rules.specs.Covering.{headAt, bareAt, coversAt}
-use Rattle.rules.proofs.Placing.{Stands, walk-past, strip-stands, strip-past, past-strip, skip-stands, next-term, past-next, head-stands, head-past, fromMethod, result-stands, past-result}
+use Rattle.rules.proofs.Placing.{Stands, walk-past, strip-stands, strip-past, past-strip, skip-stands, next-term, past-next, head-stands, head-past, fromMethod, result-stands}
 use Rattle.rules.proofs.Targets.{link-arrow}
 use Rattle.rules.proofs.Agreed.{atoms-agree}
 use Rattle.rules.proofs.Answered.{within-here, within-past}
 use Rattle.rules.proofs.NumberedFill.{fill-atom-over, atom-deeper}
 use Rattle.rules.proofs.Meets.{Images}
-use Rattle.rules.proofs.TermsMeet.{CallAt, call-stands, calls-meet}
+use Rattle.rules.proofs.TermsMeet.{call-stands, calls-meet}
 
 -- An atom that stands at a place of p, formed, its variables below w.
 pub record AtomAt (p : List ℕ) (at : ℕ) (w : ℕ) (x : Atom) : Type 0 where

@@ -22,4 +22,5 @@ pub mod NumberedFill
 pub mod TermsMeet
 pub mod RowsMeet
 pub mod CoversMeet
+pub mod CoverRows
 pub mod RowExamples

@@ -1,21 +1,21 @@
 -- Filling keeps to numbers N where the images have such numbers; and what is formed at one depth is formed at a greater one.
-use Prim.Native.Nat.{ℕ, zero, suc, _≤_, _<_, max}
-use mathlib.Core.Bool.{Bool, true, false, _&&_}
+use Prim.Native.Nat.{ℕ, _≤_, _<_, max}
+use mathlib.Core.Bool.{Bool, true, _&&_}
 use mathlib.Core.List.{List, [], _∷_}
-use mathlib.Core.Path.{_≡_, refl}
+use mathlib.Core.Path.{_≡_}
 use native.Mathlib.Omega.{arith}
-use lib.Dec.{T, leb, ltb, leb→le, le→leb, ltb→lt, lt→ltb}
+use lib.Dec.{T, ltb, leb→le, le→leb, ltb→lt, lt→ltb}
 use Rattle.logic.specs.declared.Sign.the-variants.{Positive}
 use Rattle.logic.specs.declared.Arrow.{Arrow}
 use Rattle.logic.specs.Syntax.{Term, var, app, Terms, nil, cons, Result, value, none, Atom, link, obj, method, lit}
-use Rattle.logic.specs.Terms.{count, termsOf}
+use Rattle.logic.specs.Terms.{termsOf}
 use Rattle.logic.specs.Each.{eachTerm, eachTerms, eachAtom, atomOver, allowed, termWidth, termsWidth}
 use Rattle.logic.specs.Fill.{Substitution, fill, fills, fillAtom, fillLiteral, fillClause}
 use Rattle.logic.proofs.Both.{left, right, both}
 use Rattle.logic.proofs.Ground.{each-fill, eachs-fill}
 use Rattle.logic.proofs.Over.{Over, fill-over}
 use Rattle.reader.specs.Write.{putAtom}
-use Rattle.reader.specs.Form.{formedNumber, depthOf, depthOfs, numbered, numbereds, formedTerm, formedTerms, formedResult, formedAtom, formedLiteral, formedClause}
+use Rattle.reader.specs.Form.{formedNumber, numbered, numbereds, formedTerm, formedTerms, formedResult, formedAtom, formedLiteral, formedClause}
 use Rattle.reader.proofs.Tests.{T-and}
 use Rattle.reader.proofs.Unique.{atom-unique}
 use Rattle.reader.proofs.Deep.{formedSymbol, each-numbered, eachs-numbered, numbered-each, numbereds-each, atomDepth, atom-formed, formed-over}

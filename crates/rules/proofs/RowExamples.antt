@@ -9,7 +9,7 @@ use Rattle.logic.specs.declared.Rule.{Rule}
 use Rattle.logic.specs.declared.Rule.the-variants.{Res, Fac, Acy, Sca, Eli}
 use Rattle.logic.specs.declared.Judged.{Judged}
 use Rattle.logic.specs.declared.Judged.the-variants.{Passed, Misshapen, Disagrees}
-use Rattle.logic.specs.Syntax.{Term, var, app, nil, cons, value, none, mayBeNone, link, obj, method, Literal}
+use Rattle.logic.specs.Syntax.{Term, var, app, nil, value, none, mayBeNone, link, obj, method, Literal}
 use Rattle.logic.specs.Fill.{Substitution, entries, fill, fillResult, fillAtom, fillLiteral}
 use Rattle.logic.specs.Terms.{entryOr}
 use Rattle.logic.specs.Rules.{one, bareResult, bare, scalar, plus, minus}

@@ -1,12 +1,12 @@
 -- refl, acy and sca: what checks 9 to 11 say in bytes is what the rule table says.
-use Prim.Native.Nat.{ℕ, _+_, _≤_, _<_, max}
-use mathlib.Core.Bool.{Bool, true, false, cond, _&&_}
+use Prim.Native.Nat.{ℕ, _+_, _≤_, _<_}
+use mathlib.Core.Bool.{Bool, true, false, _&&_}
 use mathlib.Core.List.{List, [], _∷_}
 use mathlib.Core.Logic.{_⊎_, inl, inr, _↔_, ite}
-use mathlib.Core.Path.{_≡_, refl, sym, ap, subst, _∙_}
+use mathlib.Core.Path.{_≡_, refl, sym, ap, _∙_}
 use native.Mathlib.Omega.{arith}
 use lib.Dec.{T}
-use lib.ListN.{length, drop}
+use lib.ListN.{length}
 use Rattle.logic.specs.declared.Sign.the-variants.{Positive, Negative}
 use Rattle.logic.specs.declared.Link.{Link}
 use Rattle.logic.specs.declared.Link.the-variants.{Eq, Mem, Sub}
@@ -14,28 +14,28 @@ use Rattle.logic.specs.declared.Arrow.{Arrow}
 use Rattle.logic.specs.declared.Arrow.the-variants.{Sv, Si, Mv, Mi, St, Mt}
 use Rattle.logic.specs.declared.Rule.the-variants.{Refl, Acy, Sca}
 use Rattle.logic.specs.declared.Judged.the-variants.{Misshapen}
-use Rattle.logic.specs.Syntax.{Term, var, Terms, nil, cons, Result, value, none, Atom, link, obj, method, Literal, lit}
+use Rattle.logic.specs.Syntax.{Term, var, Terms, cons, Result, value, none, Atom, link, obj, method, Literal, lit}
 use Rattle.logic.specs.Terms.{termsOf}
 use Rattle.logic.specs.Equality.{link?}
-use Rattle.logic.specs.Each.{termWidth, termsWidth, width}
+use Rattle.logic.specs.Each.{termWidth, width}
 use Rattle.logic.specs.Fill.{Substitution, fill, fills, fillResult, fillAtom, fillLiteral}
-use Rattle.logic.specs.Rules.{Agreement, always, equal, alike, Holds, scalar, one, plus}
-use Rattle.logic.specs.Judge.{Conclusion, misshapen, concludes, withNew, onPlus, onLink, onSub, onResult, onMethod, onScalar, conclude-acy, conclude-sca, tableRow, holds?}
+use Rattle.logic.specs.Rules.{always, equal, alike, Holds, scalar, one, plus}
+use Rattle.logic.specs.Judge.{Conclusion, misshapen, withNew, onPlus, onLink, onSub, onResult, onMethod, onScalar, conclude-acy, conclude-sca, tableRow, holds?}
 use Rattle.reader.specs.Words.{bytes}
-use Rattle.reader.specs.Write.{word, putDigits, putNumber, putTerm, putAtom, putLiteral}
+use Rattle.reader.specs.Write.{word, putDigits, putNumber, putTerm, putAtom}
 use Rattle.reader.specs.Form.{depthOf, numbered, formedTerm, formedAtom, formedLiteral}
 use Rattle.reader.specs.Heads.{linkKind, arrowKind, kindNumber, head}
 use Rattle.reader.proofs.Heads.{afterHead}
 use Rattle.reader.proofs.Tests.{T-and}
-use Rattle.rules.specs.Shapes.{stripAt, nextAt, positiveAt, firstAt, orElse, ifPlace, resultAt, objectAt}
-use Rattle.rules.specs.Rows.{within, answer, agreeAt, acyAt, callsAt, equalTests, sameArrowAt, scaAt}
+use Rattle.rules.specs.Shapes.{stripAt, nextAt, positiveAt, firstAt, ifPlace, resultAt, objectAt}
+use Rattle.rules.specs.Rows.{within, answer, acyAt, equalTests, sameArrowAt, scaAt}
 use Rattle.rules.specs.Table.{rowAt}
 use Rattle.rules.specs.Conclusions.{reflNewAt, acyNewAt, scaNewAt, newAt}
-use Rattle.rules.proofs.Placing.{Stands, positive-stands, negative-past, head-stands, head-past, next-term, past-next, past-strip, past-result, inner, either-stands, either-past, past-inner, object-of, object-none, past-object, fromMethod}
-use Rattle.rules.proofs.Targets.{kind-link, link-below, link-arrow, link-past}
-use Rattle.rules.proofs.Answered.{judgedOf, within-here, within-past, other-shape, right-shape}
+use Rattle.rules.proofs.Placing.{Stands, positive-stands, negative-past, head-stands, head-past, next-term, past-next, past-strip, inner, either-stands, either-past, past-inner, object-of, object-none, past-object}
+use Rattle.rules.proofs.Targets.{kind-link, link-arrow, link-past}
+use Rattle.rules.proofs.Answered.{judgedOf, within-here, within-past, right-shape}
 use Rattle.rules.proofs.Meets.{Images, LiteralAt, Meets}
-use Rattle.rules.proofs.TermsMeet.{TermAt, ArgumentsAt, CallAt, call-stands, result-at, term-meets, calls-meet, linked-claimed, missing, concluding}
+use Rattle.rules.proofs.TermsMeet.{TermAt, CallAt, call-stands, result-at, term-meets, calls-meet, linked-claimed, missing, concluding}
 
 -- refl: variable 0 by itself.
 variable-zero : TermAt (bytes "(v 0)") 0 1 (var 0)
@@ -54,6 +54,10 @@ pub data LinkView (p : List ℕ) (x : ℕ) (σ : Substitution) (v : ℕ) (c : (T
   no-link : nextAt p x ≡ length p + 1 → ((f : Term → Term → Conclusion) → c f ≡ misshapen) → LinkView p x σ v c
   a-link : (t u : Term) → TermAt p x v t → TermAt p (nextAt p x) v u → ((f : Term → Term → Conclusion) → c f ≡ f (fill σ t) (fill σ u)) → LinkView p x σ v c
 
+-- Links come before the other kinds.
+pub link-small : (k : Link) → linkKind k < 3
+link-small = elim [ Eq ↦ omega arith | Mem ↦ omega arith | Sub ↦ omega arith ]
+
 -- Past the end there is none.
 past-link : (p : List ℕ) (k : Link) → nextAt p (stripAt p (head (linkKind k)) (length p + 1)) ≡ length p + 1
 past-link p = elim [
@@ -62,7 +66,7 @@ past-link p = elim [
   | Sub ↦ ap (nextAt p) (past-strip p 40 _) ∙ past-next p
 ]
 
-past-positive : (p : List ℕ) → positiveAt p (length p + 1) ≡ length p + 1
+pub past-positive : (p : List ℕ) → positiveAt p (length p + 1) ≡ length p + 1
 unfolding positiveAt
 past-positive p = past-strip p 40 _
 
@@ -85,10 +89,7 @@ module _ (p : List ℕ) (i v : ℕ) (σ : Substitution) where
           let h = a .narrow in
           rw (ap linkKind e) (a-link t u (record { rest = _; stands = s; formed = ft; narrow = omega arith }) (record { rest = _; stands = next-term p t s; formed = fu; narrow = omega arith }) (λ f. refl))
       go (no e) = no-link (link-past p k (link l t u) (word ")" (a .rest)) (λ h. e (kind-link k l h)) atom) (λ f. refl)
-  link-view k (lit Positive (obj t)) a = no-link (link-past p k (obj t) (word ")" (a .rest)) (λ h. omega (arith, small k)) (positive-stands p (obj t) (a .rest) (a .stands))) (λ f. refl)
-    where
-      small : (k : Link) → linkKind k < 3
-      small = elim [ Eq ↦ omega arith | Mem ↦ omega arith | Sub ↦ omega arith ]
+  link-view k (lit Positive (obj t)) a = no-link (link-past p k (obj t) (word ")" (a .rest)) (λ h. omega (arith, link-small k)) (positive-stands p (obj t) (a .rest) (a .stands))) (λ f. refl)
   link-view k (lit Positive (method b o m ts r)) a =
       no-link (link-past p k (method b o m ts r) (word ")" (a .rest)) (link-arrow k b) (positive-stands p (method b o m ts r) (a .rest) (a .stands))) (λ f. refl)
 
@@ -96,17 +97,17 @@ module _ (p : List ℕ) (i v : ℕ) (σ : Substitution) where
 pub both-within : (p q : List ℕ) {x y : ℕ} → x ≤ length p → y ≤ length q → (within p x && within q y) ≡ true
 both-within p q {x} {y} h k = rw (within-here p x h, within-here q y k)
 
-pub first-past : (p q : List ℕ) {x : ℕ} (y : ℕ) (b : Bool) → x ≡ length p + 1 → answer (within p x && within q y) b ≡ Misshapen
-unfolding answer
-first-past p q {x} y b e = rw (within-past p x e)
-
-pub second-past : (p q : List ℕ) (x : ℕ) {y : ℕ} (b : Bool) → y ≡ length q + 1 → answer (within p x && within q y) b ≡ Misshapen
-unfolding answer
-second-past p q x {y} b e = go (within p x)
+pub one-past : (p q : List ℕ) (x y : ℕ) → (x ≡ length p + 1) ⊎ (y ≡ length q + 1) → (within p x && within q y) ≡ false
+one-past p q x y (inl e) = rw (within-past p x e)
+one-past p q x y (inr e) = rw (within-past q y e) (none (within p x))
   where
-    go : (c : Bool) → answer (c && within q y) b ≡ Misshapen
-    go true = rw (within-past q y e)
-    go false = refl
+    none : (b : Bool) → (b && false) ≡ false
+    none true = refl
+    none false = refl
+
+pub past-shape : (p q : List ℕ) (x y : ℕ) (b : Bool) → (x ≡ length p + 1) ⊎ (y ≡ length q + 1) → answer (within p x && within q y) b ≡ Misshapen
+unfolding answer
+past-shape p q x y b e = rw (one-past p q x y e)
 
 -- Two pairs of terms.
 pairs : (s t s′ t′ : Term) → (cons s (one t) ≡ cons s′ (one t′)) ↔ ((s ≡ s′) × (t ≡ t′))
@@ -118,8 +119,8 @@ module _ {line starts others : List ℕ} {σ τ : Substitution} {v w : ℕ} (g :
   acy-meets l m a b = go (link-view p i v σ Sub l a) (link-view q j w τ Sub m b)
     where
       go : LinkView p (firstAt p (head 2) i) σ v (onLinkOf σ Sub l) → LinkView q (firstAt q (head 2) j) τ w (onLinkOf τ Sub m) → Meets Acy k p i line starts q j others (conclude-acy (fillLiteral σ l) (fillLiteral τ m))
-      go (no-link e n) d = missing _ (n _) (first-past p q _ _ e)
-      go (a-link t u ta ua e) (no-link f n) = missing _ (e _ ∙ n _) (second-past p q _ _ f)
+      go (no-link e n) d = missing _ (n _) (past-shape p q _ _ _ (inl e))
+      go (a-link t u ta ua e) (no-link f n) = missing _ (e _ ∙ n _) (past-shape p q _ _ _ (inr f))
       go (a-link t u ta ua e) (a-link t′ u′ tb ub f) =
           let first = term-meets g h ta ub in
           let second = term-meets g h ua tb in
@@ -201,8 +202,8 @@ module _ {line starts others : List ℕ} {σ τ : Substitution} {v w : ℕ} (g :
     where
       go : ScalarView p i (objectAt p (head 4) (head 5) i) σ v (onScalar (fillLiteral σ l)) → ScalarView q j (objectAt q (head 4) (head 5) j) τ w (onScalar (fillLiteral τ m)) →
           Meets Sca k p i line starts q j others (conclude-sca (fillLiteral σ l) (fillLiteral τ m))
-      go (no-scalar e n) d = missing _ (n _) (first-past p q _ _ e)
-      go (a-scalar a o m ts r s c d e) (no-scalar f n) = missing _ (e _ ∙ n _) (second-past p q _ _ f)
+      go (no-scalar e n) d = missing _ (n _) (past-shape p q _ _ _ (inl e))
+      go (a-scalar a o m ts r s c d e) (no-scalar f n) = missing _ (e _ ∙ n _) (past-shape p q _ _ _ (inr f))
       go (a-scalar a o m ts r s c d e) (a-scalar a′ o′ m′ ts′ r′ s′ c′ d′ f) =
           let arrows = same-arrow s s′ in
           let agree = calls-meet g h (sameArrowAt p i q j) c c′ in
@@ -226,10 +227,10 @@ past-sub p i e = rw (e, past-positive p) (past-link p Sub)
 module _ (k : ℕ) (p : List ℕ) (i : ℕ) (line starts q : List ℕ) (j : ℕ) (others : List ℕ) where
   pub acy-past : (i ≡ length p + 1) ⊎ (j ≡ length q + 1) → rowAt Acy k p i line starts q j others ≡ Misshapen
   unfolding rowAt acyAt
-  acy-past (inl e) = first-past p q _ _ (past-sub p i e)
-  acy-past (inr e) = second-past p q _ _ (past-sub q j e)
+  acy-past (inl e) = past-shape p q _ _ _ (inl (past-sub p i e))
+  acy-past (inr e) = past-shape p q _ _ _ (inr (past-sub q j e))
 
   pub sca-past : (i ≡ length p + 1) ⊎ (j ≡ length q + 1) → rowAt Sca k p i line starts q j others ≡ Misshapen
   unfolding rowAt scaAt
-  sca-past (inl e) = first-past p q _ _ (past-scalar-object p i e)
-  sca-past (inr e) = second-past p q _ _ (past-scalar-object q j e)
+  sca-past (inl e) = past-shape p q _ _ _ (inl (past-scalar-object p i e))
+  sca-past (inr e) = past-shape p q _ _ _ (inr (past-scalar-object q j e))

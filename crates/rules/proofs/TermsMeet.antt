@@ -1,13 +1,12 @@
 -- Terms of written literals: when two agree, and a new literal of two of them.
-use Prim.Native.Nat.{ℕ, _≤_, _<_, max}
-use mathlib.Core.Bool.{Bool, true, false, _&&_}
+use Prim.Native.Nat.{ℕ, _≤_, max}
+use mathlib.Core.Bool.{Bool}
 use mathlib.Core.List.{List, [], _∷_, _++_}
 use mathlib.Core.Logic.{_↔_}
 use mathlib.Core.Path.{_≡_, refl, sym, ap, subst, _∙_}
 use native.Mathlib.Omega.{arith}
 use lib.Dec.{T}
-use lib.ListN.{length, drop}
-use Rattle.logic.specs.declared.Sign.the-variants.{Positive}
+use lib.ListN.{drop}
 use Rattle.logic.specs.declared.Link.{Link}
 use Rattle.logic.specs.declared.Arrow.{Arrow}
 use Rattle.logic.specs.declared.Rule.{Rule}
@@ -18,10 +17,9 @@ use Rattle.logic.specs.Each.{termWidth, termsWidth}
 use Rattle.logic.specs.Fill.{Substitution, fill, fills}
 use Rattle.logic.specs.Rules.{Agreement, plus}
 use Rattle.logic.specs.Judge.{Conclusion, misshapen, concludes}
-use Rattle.logic.proofs.Both.{right}
-use Rattle.reader.specs.Words.{bytes, linkWord}
+use Rattle.reader.specs.Words.{linkWord}
 use Rattle.reader.specs.Write.{word, putTerm, putArguments, putResult, putAtom, putLiteral, putLiterals}
-use Rattle.reader.specs.Form.{depthOf, depthOfs, numbered, numbereds, formedTerm, formedTerms, formedResult, formedAtom}
+use Rattle.reader.specs.Form.{numbered, numbereds, formedTerm, formedTerms, formedResult, formedAtom}
 use Rattle.reader.proofs.Plain.{in-front, term-plain}
 use Rattle.reader.proofs.Tests.{T-and}
 use Rattle.rules.specs.Filled.{fillItem, replacing, matches, endsOf}
