@@ -122,3 +122,10 @@ fac-by-table = refl
 eli-in-bytes : rowOf Eli (minus (obj x)) none-x ∷ rowOf Eli (plus (obj x)) none-x ∷ rowOf Eli none-x none-x ∷ [] ≡ Passed ∷ Misshapen ∷ Misshapen ∷ []
 unfolding rowAt acyAt answer within agreeAt firstAt positiveAt nextAt skipAt stripAt endOf sameItem along whole both turned matches endsOf plain fillItem insideUpTo inside front indexed readIndex readNumber readDigits goesOn digit oneOf strip closing skipItem passItem places entryOf putClause putLiterals putLiteral putAtom putArguments putResult putTerm putNumber putDigits resultAt callsAt headAt bareAt coversAt negativeAt orElse sameSignAt atomAt facAt eliAt
 eli-in-bytes = refl
+
+abbrev eliByTable : Literal → Judged
+eliByTable l = judgedOf (conclude-eli (fillLiteral σ l) [])
+
+eli-by-table : eliByTable (minus (obj x)) ∷ eliByTable (plus (obj x)) ∷ eliByTable none-x ∷ [] ≡ Passed ∷ Misshapen ∷ Misshapen ∷ []
+unfolding judgedOf conclude-eli fillLiteral fillAtom fillResult fill entries entryOr onMinus onObj holds?
+eli-by-table = refl
