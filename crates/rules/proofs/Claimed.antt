@@ -44,7 +44,7 @@ unfolding stripAt strip
 strip-chain line v b w pos = ap (endOf line) (strip-append v (b ∷ w) (drop pos line)) ∙ then-end line pos (strip-tail v) (strip (b ∷ w)) refl
 
 -- The place past what matches.
-match-place : (p line ws rest bs : List ℕ) → endsOf p line (matches (got ws rest) bs) .pos ≡ endOf line (strip ws bs)
+pub match-place : (p line ws rest bs : List ℕ) → endsOf p line (matches (got ws rest) bs) .pos ≡ endOf line (strip ws bs)
 unfolding endsOf matches endOf
 match-place p line ws rest bs = go (strip ws bs)
   where

@@ -18,3 +18,9 @@ pub mod Spots
 pub mod Placed
 pub mod LineLists
 pub mod Meets
+pub mod NumberedFill
+pub mod TermsMeet
+pub mod RowsMeet
+pub mod CoversMeet
+pub mod CoverRows
+pub mod RowExamples

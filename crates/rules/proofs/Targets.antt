@@ -45,11 +45,11 @@ link-number = elim [ Eq ↦ refl | Mem ↦ refl | Sub ↦ refl ]
 pub kind-link : (k l : Link) → linkKind k ≡ linkKind l → k ≡ l
 kind-link k l e = sym (link-back k) ∙ (ap linkAt (link-number k ∙ (e ∙ sym (link-number l))) ∙ link-back l)
 
-link-below : (k : Link) → linkKind k < 10
+pub link-below : (k : Link) → linkKind k < 10
 link-below = elim [ Eq ↦ omega arith | Mem ↦ omega arith | Sub ↦ omega arith ]
 
 -- A link is no arrow.
-link-arrow : (k : Link) (a : Arrow) → linkKind k ≡ arrowKind a → ⊥
+pub link-arrow : (k : Link) (a : Arrow) → linkKind k ≡ arrowKind a → ⊥
 link-arrow k a e = omega (arith, low k, high a)
   where
     low : (k : Link) → linkKind k < 3
@@ -86,7 +86,7 @@ argument-written (suc k) (cons t ts) w rest = argument-written k ts (λ a. w (re
 
 module _ (p : List ℕ) where
   -- The second term of a link, from its atom on.
-  link-past : (k : Link) {at : ℕ} (x : Atom) (rest : List ℕ) → (linkKind k ≡ kindNumber x → ⊥) → Stands p at (putAtom x rest) → nextAt p (stripAt p (head (linkKind k)) at) ≡ length p + 1
+  pub link-past : (k : Link) {at : ℕ} (x : Atom) (rest : List ℕ) → (linkKind k ≡ kindNumber x → ⊥) → Stands p at (putAtom x rest) → nextAt p (stripAt p (head (linkKind k)) at) ≡ length p + 1
   link-past k x rest e s = ap (nextAt p) (head-past p (linkKind k) x rest (link-below k) e s) ∙ past-next p
 
   link-placed : (k : Link) {at : ℕ} (x : Atom) (rest : List ℕ) → Stands p at (putAtom x rest) → Placed p (nextAt p (stripAt p (head (linkKind k)) at)) (linkAim k x)
