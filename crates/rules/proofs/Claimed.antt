@@ -75,7 +75,7 @@ literal-opens : (l : Literal) (rest : List ℕ) → (more : List ℕ) × (putLit
 unfolding putLiteral
 literal-opens (lit g x) rest = (_, refl)
 
-literals-open : (c : Clause) (b : ℕ) (x : List ℕ) → (d : ℕ) × (y : List ℕ) × (putLiterals c (b ∷ x) ≡ d ∷ y)
+pub literals-open : (c : Clause) (b : ℕ) (x : List ℕ) → (d : ℕ) × (y : List ℕ) × (putLiterals c (b ∷ x) ≡ d ∷ y)
 unfolding putLiterals
 literals-open [] b x = (b, x, refl)
 literals-open (l ∷ c) b x = (_, _, refl)

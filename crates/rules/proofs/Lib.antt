@@ -24,3 +24,6 @@ pub mod RowsMeet
 pub mod CoversMeet
 pub mod CoverRows
 pub mod RowExamples
+pub mod Literals
+pub mod Concluded
+pub mod StepMeets
