@@ -18,3 +18,4 @@ pub mod Spots
 pub mod Placed
 pub mod LineLists
 pub mod Meets
+pub mod RewriteExamples
