@@ -19,3 +19,4 @@ pub mod Placed
 pub mod LineLists
 pub mod Meets
 pub mod RewriteExamples
+pub mod Rewrites

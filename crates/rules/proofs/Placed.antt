@@ -7,7 +7,7 @@ use lib.ListN.{length}
 use Rattle.logic.specs.declared.Sign.{Sign}
 use Rattle.logic.specs.declared.Link.{Link}
 use Rattle.logic.specs.declared.Arrow.{Arrow}
-use Rattle.logic.specs.Syntax.{Term, Terms, nil, cons, Result, value, none, Atom, link, method, Literal, lit}
+use Rattle.logic.specs.Syntax.{Term, Terms, cons, Result, value, Atom, link, method, lit}
 use Rattle.logic.specs.Terms.{termsOf}
 use Rattle.logic.specs.Each.{termsWidth}
 use Rattle.logic.specs.Fill.{Substitution, fill, fills, fillResult}
@@ -18,8 +18,8 @@ use Rattle.reader.specs.Form.{formedAtom}
 use Rattle.reader.specs.Read.{got}
 use Rattle.reader.proofs.Trees.{Tree, node, Trees, end, byte, part, putTree, putInside, texts, Clean, Within, Below, treeTerm, treeTerms, treeArguments, treeResult, treeAtom, treeLiteral, put-term, put-terms, put-arguments, put-result, put-literal, clean-literal, within-literal}
 use Rattle.rules.specs.Filled.{Filler, fillItem}
-use Rattle.rules.proofs.Filling.{fillTree, fillTrees, trees, tree-term, tree-terms, tree-arguments, tree-result}
-use Rattle.rules.proofs.Holes.{Found, found, mapFound, turn, Held, Good, stack}
+use Rattle.rules.proofs.Filling.{fillTrees, trees, tree-term, tree-terms, tree-arguments, tree-result}
+use Rattle.rules.proofs.Holes.{found, mapFound, turn, Good, stack}
 use Rattle.rules.proofs.Spots.{Spot, here, within, SpotIn, skip, now, later, spot, spotIn, spot-held, atom-spot, spot-atom}
 
 -- Term t is argument k, and these are the arguments behind it.

@@ -3,7 +3,7 @@ use Prim.Native.Nat.{ℕ, zero, suc, _+_, _≤_, _<_}
 use mathlib.Core.Bool.{Bool, true, false, cond, true≢false}
 use mathlib.Core.List.{List, [], _∷_}
 use mathlib.Core.Logic.{_⊎_, inl, inr, ite}
-use mathlib.Core.Path.{_≡_, refl, sym, ap, subst, _∙_}
+use mathlib.Core.Path.{_≡_, refl, sym, ap, _∙_}
 use native.Mathlib.Omega.{arith}
 use lib.Dec.{T, eqb, leb→le, le→leb}
 use lib.ListN.{length, drop}
@@ -39,7 +39,7 @@ use Rattle.rules.specs.Shapes.{stripAt, nextAt, positiveAt, firstAt, orE
 use Rattle.rules.specs.Filled.{Filler, fillItem}
 use Rattle.rules.proofs.Holes.{stack}
 use Rattle.rules.proofs.Placed.{Argument as Chosen, first, next, replaced, hole-second, hole-object, hole-argument, hole-result}
-use Rattle.rules.proofs.Placing.{Stands, walk-stands, walk-past, none-past, fromMethod, past-inner, past-object, past-result, result-stands, either-past, either-stands, object-of, object-none, next-arguments, next-term, past-next, past-strip, positive-stands, negative-past, head-stands, head-past}
+use Rattle.rules.proofs.Placing.{Stands, walk-stands, walk-past, none-past, fromMethod, past-inner, past-object, past-result, result-stands, either-past, either-stands, object-of, object-none, next-term, past-next, past-strip, positive-stands, negative-past, head-stands, head-past}
 
 -- A target of the literal l, which `rest` follows: it is formed, its variables are below w, and filling with the hole at it, which `left` follows, puts
 -- another term in its place.
@@ -66,16 +66,16 @@ link-number = elim [ Eq ↦ refl | Mem ↦ refl | Sub ↦ refl ]
 pub kind-link : (k l : Link) → linkKind k ≡ linkKind l → k ≡ l
 kind-link k l e = sym (link-back k) ∙ (ap linkAt (link-number k ∙ (e ∙ sym (link-number l))) ∙ link-back l)
 
-link-below : (k : Link) → linkKind k < 10
-link-below = elim [ Eq ↦ omega arith | Mem ↦ omega arith | Sub ↦ omega arith ]
+link-low : (k : Link) → linkKind k < 3
+link-low = elim [ Eq ↦ omega arith | Mem ↦ omega arith | Sub ↦ omega arith ]
 
--- A link is no arrow.
-link-arrow : (k : Link) (a : Arrow) → linkKind k ≡ arrowKind a → ⊥
-link-arrow k a e = omega (arith, low k, high a)
+-- A link is no object and no arrow.
+pub link-object : (k : Link) → linkKind k ≡ 3 → ⊥
+link-object k e = omega (arith, link-low k)
+
+pub link-arrow : (k : Link) (a : Arrow) → linkKind k ≡ arrowKind a → ⊥
+link-arrow k a e = omega (arith, link-low k, high a)
   where
-    low : (k : Link) → linkKind k < 3
-    low = elim [ Eq ↦ omega arith | Mem ↦ omega arith | Sub ↦ omega arith ]
-
     high : (a : Arrow) → 4 ≤ arrowKind a
     high = elim [ Sv ↦ omega arith | Si ↦ omega arith | Mv ↦ omega arith | Mi ↦ omega arith | St ↦ omega arith | Mt ↦ omega arith ]
 
@@ -188,8 +188,13 @@ kind-signature Mt h = absurd (true≢false h)
 
 module _ (p : List ℕ) where
   -- The second term of a link, from its atom on.
-  link-past : (k : Link) {at : ℕ} (x : Atom) (rest : List ℕ) → (linkKind k ≡ kindNumber x → ⊥) → Stands p at (putAtom x rest) → nextAt p (stripAt p (head (linkKind k)) at) ≡ length p + 1
-  link-past k x rest e s = ap (nextAt p) (head-past p (linkKind k) x rest (link-below k) e s) ∙ past-next p
+  pub link-past : (k : Link) {at : ℕ} (x : Atom) (rest : List ℕ) → (linkKind k ≡ kindNumber x → ⊥) → Stands p at (putAtom x rest) → nextAt p (stripAt p (head (linkKind k)) at) ≡ length p + 1
+  link-past k x rest e s = ap (nextAt p) (head-past p (linkKind k) x rest (omega (arith, link-low k)) e s) ∙ past-next p
+
+  pub past-link : (k : Link) → nextAt p (stripAt p (head (linkKind k)) (length p + 1)) ≡ length p + 1
+  past-link Eq = ap (nextAt p) (past-strip p 40 _) ∙ past-next p
+  past-link Mem = ap (nextAt p) (past-strip p 40 _) ∙ past-next p
+  past-link Sub = ap (nextAt p) (past-strip p 40 _) ∙ past-next p
 
   -- The object of a signature with a term result, from its atom on.
   abbrev signatureFrom : ℕ → ℕ
@@ -216,9 +221,9 @@ module _ (p : List ℕ) where
   unfolding positiveAt
   past-positive = past-strip p 40 _
 
-  pub past-first : (b : ℕ) (v : List ℕ) → firstAt p (b ∷ v) (length p + 1) ≡ length p + 1
+  pub past-second : (k : Link) → nextAt p (firstAt p (head (linkKind k)) (length p + 1)) ≡ length p + 1
   unfolding firstAt
-  past-first b v = rw past-positive (past-strip p b v)
+  past-second k = rw past-positive (past-link k)
 
   past-object-at : objectAt p (bytes "(st ") (bytes "(mt ") (length p + 1) ≡ length p + 1
   unfolding objectAt
@@ -231,8 +236,8 @@ module _ (p : List ℕ) where
   past-target Fac k = refl
   past-target Par k = refl
   past-target Acy k = refl
-  past-target Tra k = ap (nextAt p) (past-first 40 _) ∙ past-next p
-  past-target Inc k = ap (nextAt p) (past-first 40 _) ∙ past-next p
+  past-target Tra k = past-second Sub
+  past-target Inc k = past-second Mem
   past-target Inh k = past-object-at
   past-target Inp k = ap (λ o. argumentAt p (nextAt p (nextAt p o)) k) past-object-at ∙ past-input k
   past-target Out k = ap (resultAt p) past-object-at ∙ past-result p
@@ -251,10 +256,7 @@ module _ (p : List ℕ) (w : ℕ) where
       go : (d : Dec (k ≡ l)) → Placed p (nextAt p (stripAt p (head (linkKind k)) at)) w (plus (link l t u)) rest (ite d (hits (here k)) misses)
       go (yes e) = rw e (found (here l) (word ")" (word ")" rest)) (next-term p t (head-stands p (link l t u) (word ")" rest) s)) (second-hole w rest l t u fits))
       go (no e) = missed (link-past p k (link l t u) (word ")" rest) (λ h. e (kind-link k l h)) s)
-  link-placed k (obj t) rest fits s = missed (link-past p k (obj t) (word ")" rest) (λ h. omega (arith, link-below k, small k)) s)
-    where
-      small : (k : Link) → linkKind k < 3
-      small = elim [ Eq ↦ omega arith | Mem ↦ omega arith | Sub ↦ omega arith ]
+  link-placed k (obj t) rest fits s = missed (link-past p k (obj t) (word ")" rest) (link-object k) s)
   link-placed k (method a o m ts r) rest fits s = missed (link-past p k (method a o m ts r) (word ")" rest) (link-arrow k a) s)
 
   positive-placed : {at : ℕ} (l : Literal) (rest : List ℕ) (f : ℕ → ℕ) (g : Atom → Aim) → f (length p + 1) ≡ length p + 1 →
@@ -271,12 +273,12 @@ module _ (p : List ℕ) (w : ℕ) where
   pub tra-placed : Aimed Tra
   unfolding targetAt firstAt aim
   tra-placed at k l rest =
-      positive-placed l rest (λ at. nextAt p (stripAt p (head 2) at)) (linkAim Sub) (ap (nextAt p) (past-strip p 40 _) ∙ past-next p) (λ x at i s. link-placed Sub x rest i s)
+      positive-placed l rest (λ at. nextAt p (stripAt p (head 2) at)) (linkAim Sub) (past-link p Sub) (λ x at i s. link-placed Sub x rest i s)
 
   pub inc-placed : Aimed Inc
   unfolding targetAt firstAt aim
   inc-placed at k l rest =
-      positive-placed l rest (λ at. nextAt p (stripAt p (head 1) at)) (linkAim Mem) (ap (nextAt p) (past-strip p 40 _) ∙ past-next p) (λ x at i s. link-placed Mem x rest i s)
+      positive-placed l rest (λ at. nextAt p (stripAt p (head 1) at)) (linkAim Mem) (past-link p Mem) (λ x at i s. link-placed Mem x rest i s)
 
   -- What is aimed at in a signature: where the object stands, the walk from there finds it.
   method-placed : {at : ℕ} (x : Atom) (rest : List ℕ) (f : ℕ → ℕ) (g : Arrow → Term → Term → Terms → Term → Aim) → f (length p + 1) ≡ length p + 1 →
