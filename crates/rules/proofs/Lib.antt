@@ -20,3 +20,4 @@ pub mod LineLists
 pub mod Meets
 pub mod RewriteExamples
 pub mod Rewrites
+pub mod ParMeets

@@ -68,7 +68,7 @@ pub data Linked (q : List ℕ) (y : ℕ) (k : Link) (w : ℕ) (m : Literal) : Ty
   unlinked : nextAt q y ≡ length q + 1 → ((τ : Substitution) (f : Term → Term → Conclusion) → onPlus (fillLiteral τ m) (λ x. onLink k x f) ≡ misshapen) → Linked q y k w m
   linked : (s u : Term) → TermAt q y w s → TermAt q (nextAt q y) w u → ((τ : Substitution) (f : Term → Term → Conclusion) → onPlus (fillLiteral τ m) (λ x. onLink k x f) ≡ f (fill τ s) (fill τ u)) → Linked q y k w m
 
-link-at : (q : List ℕ) (w j : ℕ) (k : Link) (m : Literal) → LiteralAt q j w m → Linked q (firstAt q (head (linkKind k)) j) k w m
+pub link-at : (q : List ℕ) (w j : ℕ) (k : Link) (m : Literal) → LiteralAt q j w m → Linked q (firstAt q (head (linkKind k)) j) k w m
 unfolding firstAt onPlus onLink fillLiteral fillAtom formedLiteral formedAtom width termsOf termsWidth kindNumber afterHead
 link-at q w j k (lit Negative x) a = unlinked (ap (λ x. nextAt q (stripAt q (head (linkKind k)) x)) (negative-past q x (a .rest) (a .stands)) ∙ past-link q k) (λ τ f. refl)
 link-at q w j k (lit Positive (obj t)) a = unlinked (link-past q k (obj t) _ (link-object k) (positive-stands q (obj t) (a .rest) (a .stands))) (λ τ f. refl)
