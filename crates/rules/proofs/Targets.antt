@@ -54,7 +54,7 @@ pub data Placed (p : List ℕ) (x w : ℕ) (l : Literal) (rest : List ℕ) : Aim
   missed : x ≡ length p + 1 → Placed p x w l rest misses
   found : (t : Target) (left : List ℕ) → Stands p x (putTerm (t .term) left) → Hole w l rest t left → Placed p x w l rest (hits t)
 
--- A formed literal of so few variables, and a formed atom.
+-- A formed atom, its variables below w.
 abbrev Fits : ℕ → Atom → Type 0
 Fits w x = T (formedAtom 16 x) × (termsWidth (termsOf x) ≤ w)
 
