@@ -10,22 +10,25 @@ use borrow.Author.Tests.{eq-eqb, ne-eqb, lt-ltb, le-leb}
 use lib.Dec.{T, leb, ltb, eqb, eqb·suc-zero}
 use lib.ListN.{length, getD, drop, set, length-append, length-set, length-drop, List·getD-append}
 use lib.Seq.{take-suc-set, getD-set-same, getD-set-other, getD-append-seam, drop-drop, drop-append-le}
-use Rattle.logic.specs.Syntax.{Clause, Step, input, by}
+use Rattle.logic.specs.Syntax.{Clause, Step, Line, input, by}
 use Rattle.logic.specs.Syntax as syntax
 use Rattle.logic.specs.Each.{any, declares, eachTerms, eachClause}
+use Rattle.logic.proofs.Both.{right}
 use Rattle.reader.specs.declared.states.State as code
 use Rattle.reader.specs.declared.states.Read.{Read}
 use Rattle.reader.specs.declared.forms.LineAt.{LineAt}
 use Rattle.reader.specs.Write.{putClause}
 use Rattle.reader.specs.Read.{Reading, form, noForm, readLine}
+use Rattle.reader.specs.Form.{formedNumber, formedTerms, formedClause, formedStep, formedLine}
 use Rattle.reader.specs.Figures.{office}
-use Rattle.reader.specs.State.{State, fresh, claimOf, clauses, advance, isEmpty, ordered, hasConstant, constantReady, withinLimits, symbolsDeclared, lineFailure, after}
+use Rattle.reader.specs.State.{State, fresh, claimOf, clauses, advance, isEmpty, ordered, hasConstant, constantReady, clauseFits, listFits, withinLimits, symbolsDeclared, lineFailure, after}
 use Rattle.reader.specs.Summary.{joined, termsMeasure, clauseMeasure}
 use Rattle.reader.specs.LineAt.{fromClause, placeOf, stepMeasure, lineOf}
 use Rattle.reader.specs.ReadLine.{freshState, heldTable, clauseFailure, failureIn, failureOf, placed, withSymbol, withClause, advanced, isBy, passed, readOn, readLineAt}
 use Rattle.reader.specs.Represents.{Stands, Represents, readFailure}
 use Rattle.reader.proofs.Tests.{onTest}
 use Rattle.reader.proofs.Plain.{clause-plain, in-front}
+use Rattle.reader.proofs.Sound.{line-sound}
 use Rattle.reader.proofs.LineParts.{input-place, claim-place}
 use Rattle.reader.proofs.Limits.{input-limits, step-limits}
 use Rattle.reader.proofs.StateCode.{zero-or, sym-passed}
@@ -104,11 +107,11 @@ clause-added {text} {held} {st} {st'} {c} {at} {inputs} R full S t e i = record 
     go n (no q) h = rw e (before n (omega (arith, ap length e, length-append (clauses st) (c ∷ []))))
 
 -- A clause of a line stands in the text where the line does.
-clause-stands : (text bytes rest : List ℕ) (start at : ℕ) (c : Clause) → start ≤ length text → drop start text ≡ bytes ++ rest → at ≤ length bytes → drop at bytes ≡ fromClause c → length text ≤ 65535 → Stands text (placed start at) c
+clause-stands : (text bytes rest : List ℕ) (start at : ℕ) (c : Clause) → start ≤ length text → drop start text ≡ bytes ++ rest → at ≤ length bytes → drop at bytes ≡ fromClause c → length text ≤ 65535 → T (formedClause 16 c) → T (clauseFits office c) → Stands text (placed start at) c
 unfolding placed fromClause
-clause-stands text bytes rest start at c l d k f small =
+clause-stands text bytes rest start at c l d k f small formed fits =
     let n : length text - start ≡ length bytes + length rest = sym (length-drop start text) ∙ ap length d ∙ length-append bytes rest in
-    rw (le-leb (start + at) 65535 (omega arith)) (record { rest = 41 ∷ rest; written = sym (drop-drop at start text) ∙ ap (drop at) d ∙ drop-append-le at bytes rest k ∙ rw f (ap (λ x. x ++ rest) (in-front (clause-plain c) (41 ∷ [])) ∙ append-assoc (putClause c []) (41 ∷ []) rest ∙ sym (in-front (clause-plain c) (41 ∷ rest))) })
+    rw (le-leb (start + at) 65535 (omega arith)) (record { rest = 41 ∷ rest; written = sym (drop-drop at start text) ∙ ap (drop at) d ∙ drop-append-le at bytes rest k ∙ rw f (ap (λ x. x ++ rest) (in-front (clause-plain c) (41 ∷ [])) ∙ append-assoc (putClause c []) (41 ∷ []) rest ∙ sym (in-front (clause-plain c) (41 ∷ rest))); formed = formed; fits = fits })
 
 -- One symbol more.
 symbol-added : {text : List ℕ} {held : code.State} {st : State} (k : ℕ) → Represents text held st → held .symbols < 256 → Represents text (withSymbol held k) (advance st (syntax.sym k))
@@ -140,8 +143,28 @@ module _ {text : List ℕ} {held : code.State} {st : State} (R : Represents text
   held-passes : (r : Reading) → readLine 16 bytes ≡ r → failureOf (held .symbols) (held .clauses) (held .inputs) (hasConstant (st .symbols)) (lineOf (st .symbols) bytes r) ≡ 0
   held-passes r e = held-failure R full bytes start r ∙ ap (readFailure st) (sym e) ∙ passes
 
-  stands : {c : Clause} (at : ℕ) → at ≤ length bytes → drop at bytes ≡ fromClause c → Stands text (placed start at) c
-  stands {c} at k f = clause-stands text bytes rest start at c l d k f small
+  stands : {c : Clause} (at : ℕ) → at ≤ length bytes → drop at bytes ≡ fromClause c → T (formedClause 16 c) → T (clauseFits office c) → Stands text (placed start at) c
+  stands {c} at k f formed fits = clause-stands text bytes rest start at c l d k f small formed fits
+
+  -- A line that passes is formed and within the limits.
+  line-fits : (l : Line) → readLine 16 bytes ≡ form l → T (formedLine 16 l) × T (withinLimits office st l)
+  unfolding readFailure lineFailure
+  line-fits l e =
+      let z = sym (ap (readFailure st) e) ∙ passes in
+      let o = zero-or (ordered st l) _ 3 (λ h. omega arith) z in
+      let c = zero-or (constantReady st l) _ 4 (λ h. omega arith) (o .1) in
+      (line-sound 16 bytes l e .1, zero-or (withinLimits office st l) _ 5 (λ h. omega arith) (c .1) .0)
+
+  input-fits : (c : Clause) → readLine 16 bytes ≡ form (input c) → T (formedClause 16 c) × T (clauseFits office c)
+  unfolding formedLine withinLimits
+  input-fits c e = line-fits (input c) e
+
+  step-fits : (s : Step) → readLine 16 bytes ≡ form (by s) → T (formedClause 16 (s .claim)) × T (clauseFits office (s .claim))
+  unfolding formedLine formedStep withinLimits
+  step-fits s e =
+      let w = line-fits (by s) e in
+      let numbers = formedNumber (s .a) && formedNumber (s .i) && formedNumber (s .b) && formedNumber (s .j) && formedNumber (s .k) in
+      (right (numbers && formedTerms 16 (s .first) && formedTerms 16 (s .second)) (formedClause 16 (s .claim)) (w .0), right (listFits office (s .second)) _ (right (listFits office (s .first)) _ (w .1)))
 
   -- an in line comes while there is no step
   unstepped : (c : Clause) → readLine 16 bytes ≡ form (input c) → T (isEmpty (st .steps))
@@ -153,9 +176,9 @@ module _ {text : List ℕ} {held : code.State} {st : State} (R : Represents text
   state-after noForm e = R
   state-after (form (syntax.sym k)) e = symbol-added k R (sym-passed (held .symbols) (held .clauses) (held .inputs) (hasConstant (st .symbols)) _ refl (held-passes (form (syntax.sym k)) e) .0)
   state-after (form (input c)) e =
-      clause-added R full (stands (placeOf bytes (fromClause c)) (omega arith) (rw e at (input-place 16 (st .symbols) bytes e))) refl (input-clauses st c (unstepped c e)) (rw (R .inputs, length-append) refl)
+      clause-added R full (stands (placeOf bytes (fromClause c)) (omega arith) (rw e at (input-place 16 (st .symbols) bytes e)) (input-fits c e .0) (input-fits c e .1)) refl (input-clauses st c (unstepped c e)) (rw (R .inputs, length-append) refl)
   state-after (form (by s)) e =
-      clause-added R full (stands (placeOf bytes (fromClause (s .claim))) (omega arith) (rw e at (claim-place 16 (st .symbols) bytes e))) refl (step-clauses st s) (R .inputs)
+      clause-added R full (stands (placeOf bytes (fromClause (s .claim))) (omega arith) (rw e at (claim-place 16 (st .symbols) bytes e)) (step-fits s e .0) (step-fits s e .1)) refl (step-clauses st s) (R .inputs)
 
   pub line-state : Represents text (readLineAt held bytes start .state) (after st (readLine 16 bytes))
   line-state = rw (line-passed R full bytes start passes) (state-after (readLine 16 bytes) refl)

@@ -2,19 +2,23 @@
 use Prim.Native.Nat.{ℕ, _<_}
 use mathlib.Core.Path.{_≡_}
 use mathlib.Core.List.{List, []}
+use lib.Dec.{T}
 use lib.ListN.{length, getD, drop}
 use Rattle.logic.specs.Syntax.{Clause}
 use Rattle.reader.specs.declared.states.State as code
 use Rattle.reader.specs.Write.{putClause}
 use Rattle.reader.specs.Read.{Reading, form, noForm}
 use Rattle.reader.specs.Figures.{office}
-use Rattle.reader.specs.State.{State, clauses, lineFailure}
+use Rattle.reader.specs.Form.{formedClause}
+use Rattle.reader.specs.State.{State, clauses, clauseFits, lineFailure}
 use Rattle.reader.specs.ReadLine.{heldTable}
 
--- A clause stands at a place of the text.
+-- A clause stands at a place of the text, formed and within the limits.
 pub record Stands (text : List ℕ) (at : ℕ) (c : Clause) : Type 0 where
   pub rest : List ℕ
   pub written : drop at text ≡ putClause c rest
+  pub formed : T (formedClause 16 c)
+  pub fits : T (clauseFits office c)
 
 -- "After each line the reading holds the argument counts of up to 256 symbols and the place of every clause."
 pub record Represents (text : List ℕ) (held : code.State) (st : State) : Type 0 where

@@ -8,20 +8,23 @@ use native.Mathlib.Omega.{arith}
 use borrow.Author.Tests.{le-leb, lt-leb}
 use lib.Dec.{T, leb}
 use lib.ListN.{length, drop}
-use Rattle.logic.specs.Syntax.{Term, Terms}
-use Rattle.logic.specs.Each.{termWidth, termsWidth}
-use Rattle.logic.specs.Fill.{Substitution, fill, fills}
-use Rattle.reader.specs.Write.{putTerm, putArguments}
-use Rattle.reader.specs.Form.{numbered, numbereds, formedTerm, formedTerms}
+use Rattle.logic.specs.Syntax.{Term, Terms, Atom}
+use Rattle.logic.specs.Terms.{termsOf}
+use Rattle.logic.specs.Each.{atomOver, termWidth, termsWidth}
+use Rattle.logic.specs.Fill.{Substitution, fill, fills, fillAtom}
+use Rattle.reader.specs.Write.{putTerm, putArguments, putAtom}
+use Rattle.reader.specs.Form.{formedNumber, numbered, numbereds, formedTerm, formedTerms, formedAtom}
 use Rattle.reader.specs.Read.{Parsed, bad, got}
 use Rattle.reader.proofs.Unique.{term-unique, arguments-unique}
+use Rattle.reader.proofs.Deep.{formedSymbol}
 use Rattle.rules.specs.Filled.{plain, sameItem, endsOf}
 use Rattle.rules.specs.Rows.{within, agreeAt}
-use Rattle.rules.proofs.Alike.{Fills, term-fills, same-term, same-term-only, same-arguments, same-arguments-only}
+use Rattle.rules.proofs.Alike.{Fills, term-fills, same-term, same-term-only, same-arguments, same-arguments-only, same-atom, same-atom-only}
 use Rattle.reader.proofs.Trees.{Below}
 use Rattle.rules.proofs.Filling.{trees}
 use Rattle.rules.proofs.Placing.{Stands}
 use Rattle.rules.proofs.Claimed.{Entries}
+use Rattle.rules.proofs.NumberedFill.{atom-bytes}
 
 -- The place past what agrees is a place exactly where something was read.
 found-within : (p q : List ℕ) (w : Parsed (List ℕ)) → T (within p (endsOf p q w .at)) → (other : List ℕ) × (rest : List ℕ) × (w ≡ got other rest)
@@ -55,7 +58,7 @@ module _ (p q line starts others : List ℕ) (σ τ : Substitution) (v w : ℕ) 
   unfolding plain
   second-fills = term-fills (plain line others) τ w refl entry′
 
-  -- Two terms, and two lists of arguments.
+  -- Two terms, two lists of arguments, two atoms.
   pub terms-agree : {x y : ℕ} (t u : Term) (r s : List ℕ) → Stands p x (putTerm t r) → Stands q y (putTerm u s) → T (formedTerm 19 t) → T (formedTerm 19 u) → termWidth t ≤ v → termWidth u ≤ w →
       T (numbered (fill σ t)) → T (numbered (fill τ u)) → T (agreeAt p x line starts q y others) ↔ (fill σ t ≡ fill τ u)
   terms-agree t u r s a b ft fu ht hu nt nu =
@@ -69,3 +72,10 @@ module _ (p q line starts others : List ℕ) (σ τ : Substitution) (v w : ℕ) 
       agree-exactly p q line starts others (fills σ ts ≡ fills τ us) a b
       (λ e. (s, r, same-arguments (plain line starts) (plain line others) σ τ v w 18 first-fills second-fills ts us ft fu ht hu r s e))
       (λ other rest e. arguments-unique (fills σ ts) (fills τ us) [] [] nt nu (same-arguments-only (plain line starts) (plain line others) σ τ v w 18 first-fills second-fills ts us ft fu ht hu r s e) .0)
+
+  pub atoms-agree : {x y : ℕ} (a b : Atom) (r s : List ℕ) → Stands p x (putAtom a r) → Stands q y (putAtom b s) → T (formedAtom 17 a) → T (formedAtom 17 b) → termsWidth (termsOf a) ≤ v → termsWidth (termsOf b) ≤ w →
+      T (atomOver formedNumber formedSymbol (fillAtom σ a)) → T (atomOver formedNumber formedSymbol (fillAtom τ b)) → T (agreeAt p x line starts q y others) ↔ (fillAtom σ a ≡ fillAtom τ b)
+  atoms-agree a b r s i j fa fb ha hb na nb =
+      agree-exactly p q line starts others (fillAtom σ a ≡ fillAtom τ b) i j
+      (λ e. (s, r, same-atom (plain line starts) (plain line others) σ τ v w 17 first-fills second-fills a b fa fb ha hb r s e))
+      (λ other rest e. atom-bytes (fillAtom σ a) (fillAtom τ b) [] [] na nb (same-atom-only (plain line starts) (plain line others) σ τ v w 17 first-fills second-fills a b fa fb ha hb r s e))

@@ -18,6 +18,12 @@ pub mod Spots
 pub mod Placed
 pub mod LineLists
 pub mod Meets
+pub mod NumberedFill
+pub mod TermsMeet
+pub mod RowsMeet
+pub mod CoversMeet
+pub mod CoverRows
+pub mod RowExamples
 pub mod RewriteExamples
 pub mod Rewrites
 pub mod ParMeets

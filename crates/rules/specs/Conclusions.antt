@@ -5,10 +5,12 @@ use mathlib.Core.List.{List}
 use lib.ListN.{drop}
 use Rattle.logic.specs.declared.Rule.{Rule}
 use Rattle.logic.specs.declared.Rule.the-variants.{Refl, Res, Fac, Par, Acy, Tra, Inc, Inh, Inp, Out, Sca, Eli}
+use Rattle.logic.specs.Rules.{uses}
 use Rattle.reader.specs.Words.{bytes}
 use Rattle.reader.specs.Places.{endOf}
-use Rattle.reader.specs.Access.{toOccurrence}
-use Rattle.rules.specs.Shapes.{stripAt, nextAt, firstAt, resultAt, objectAt, targetAt}
+use Rattle.reader.specs.Access.{toItem, toOccurrence}
+use Rattle.rules.specs.Shapes.{stripAt, nextAt, positiveAt, firstAt, resultAt, objectAt, targetAt}
+use Rattle.rules.specs.Rows.{within}
 use Rattle.rules.specs.Claims.{rewrittenAt, linkedAt, othersAt}
 
 -- "refl | + sub(T,T)": T is what variable 0 becomes.
@@ -54,3 +56,24 @@ newAt Inp k p i line starts q j others pos = subNewAt Inp false k p i line start
 newAt Out k p i line starts q j others pos = subNewAt Out true k p i line starts q j others pos
 newAt Sca k p i line starts q j others pos = scaNewAt p i line starts q j others pos
 newAt Eli k p i line starts q j others pos = pos
+
+-- "Positions are counted from 0": the place of literal n of the clause that p begins with.
+unfoldable pub placeAt : List ℕ → ℕ → ℕ
+placeAt p n = endOf p (toItem n (drop (stripAt p (bytes "(or") 0) p))
+
+-- "\"At I\" is in A, \"at J\" in B"; where B is unused, J is in A too.
+unfoldable pub secondAt : Bool → List ℕ → List ℕ → ℕ → ℕ
+secondAt usesB p q n = cond usesB (placeAt q n) (placeAt p n)
+
+-- The literal of A that the claim lacks: "For fac it is A without literal J (positive) or without literal I (negative)."
+-- Of the rules without B only fac goes by a positive literal at I, which stands at `at`.
+unfoldable pub droppedAt : Bool → List ℕ → ℕ → ℕ → ℕ → ℕ
+droppedAt usesB p at i j = cond usesB i (cond (within p (positiveAt p at)) j i)
+
+-- "The claim, all of it filled, is the new literal if any, A's other literals, then B's other literals, in order."
+-- The clauses have n and m literals, those at I and J begin at the places x and y, and the claim begins at `pos`.
+unfoldable pub claimAt : Rule → ℕ → List ℕ → ℕ → ℕ → ℕ → List ℕ → List ℕ → List ℕ → ℕ → ℕ → ℕ → List ℕ → ℕ → ℕ
+claimAt rule k p n i x line starts q m j y others pos =
+    let new = newAt rule k p x line starts q y others (stripAt line (bytes "(or") pos) in
+    let first = othersAt p n (droppedAt (uses rule .b) p x i j) line starts new in
+    stripAt line (bytes "))") (othersAt q m j line others first)

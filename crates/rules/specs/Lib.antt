@@ -6,3 +6,4 @@ pub mod Rows
 pub mod Covering
 pub mod Table
 pub mod Conclusions
+pub mod Judging

@@ -38,7 +38,7 @@ fn equal(x: bool, y: bool) -> bool
     if x { y } else { !y }
 }
 
-fn choose(first: bool, x: usize, y: usize) -> usize
+pub fn choose(first: bool, x: usize, y: usize) -> usize
     ensures { λ r. ⌜ r ≡ cond first x y ⌝ }
 {
     if first { x } else { y }

@@ -1,0 +1,173 @@
+// Checks 7 to 11 of a step.
+use crate::conclusions::claim;
+use crate::conclusions::place;
+use crate::conclusions::second;
+use crate::rows::choose;
+use crate::table::row;
+use crate::uses::both;
+use crate::uses::parents_below;
+use crate::uses::unused_zero;
+use crate::uses::used;
+use logic::Judged;
+use logic::Rule;
+use reader::access::starts;
+use reader::clauses::clause;
+use reader::forms::LineAt;
+use reader::forms::line as read_form;
+use reader::states::State;
+use reader::summaries::Measure;
+use reader::texts::clause_part;
+use reader::words::word;
+ghost use mathlib.Core.Path.{_≡_};
+ghost use lib.ListN.{getD};
+ghost use Rattle.rules.specs.Judging.{partAt, measureAt, listAt, listsAt, thenClaim, concludeAt, settledAs, stepAt, partsAt, judgeAt, Judges};
+
+const DEPTH: usize = 16;
+
+// The place of clause n, or 0.
+fn start(places: &[u16], n: usize) -> usize
+    ensures { λ r. ⌜ r ≡ getD (now (places .entry)) n 0 ⌝ }
+{
+    if n >= places.len() {
+        return 0;
+    }
+    places[n] as usize
+}
+
+// The part of the text that begins with clause n; no bytes for an unused parent.
+fn parent<'a>(text: &'a [u8], places: &[u16], is_used: bool, n: usize) -> &'a [u8]
+    ensures { λ r. ⌜ now r ≡ partAt (now (text .entry)) (now (places .entry)) «is_used» n ⌝ }
+{
+    let at = start(places, n);
+    if is_used {
+        return clause_part(text, at);
+    }
+    &text[0..0]
+}
+
+// A parent's number of literals and its highest variable plus 1.
+fn measure(p: &[u8]) -> Measure
+    ensures { λ r. ⌜ r ≡ measureAt (now (p .entry)) ⌝ }
+{
+    let found = clause(p, 0, DEPTH, &p[0..0]);
+    found.measure
+}
+
+// The places of the entries of the list that begins at `at`.
+fn list(line: &[u8], at: usize) -> [usize; 33]
+    ensures { λ r. ⌜ r ≡ listAt (now (line .entry)) at ⌝ }
+{
+    starts(line, word(line, at, b"(let"))
+}
+
+// The second part of check 8: "a list has the wrong length".
+fn lists_fit(rule: Rule, firsts: usize, seconds: usize, a: usize, b: usize) -> bool
+    ensures { λ r. ⌜ r ≡ listsAt rule firsts seconds a b ⌝ }
+{
+    let wanted = choose(used(rule, 0), a, 1);
+    both(firsts == wanted, seconds == b)
+}
+
+// Check 11 comes after 9 and 10.
+fn then_claim(answer: Judged, claimed: bool) -> Judged
+    ensures { λ r. ⌜ r ≡ thenClaim answer claimed ⌝ }
+{
+    match answer {
+        Judged::Passed => {
+            if claimed {
+                Judged::Passed
+            } else {
+                Judged::WrongClaim
+            }
+        }
+        Judged::NoParent => Judged::NoParent,
+        Judged::WrongNumber => Judged::WrongNumber,
+        Judged::Misshapen => Judged::Misshapen,
+        Judged::Disagrees => Judged::Disagrees,
+        Judged::WrongClaim => Judged::WrongClaim,
+    }
+}
+
+// Checks 9 to 11 of a rule and its numbers, over parents of n and m literals and two lists; the claim begins at `pos`.
+pub fn conclude(
+    rule: Rule,
+    k: usize,
+    p: &[u8],
+    n: usize,
+    i: usize,
+    line: &[u8],
+    starts: &[usize],
+    q: &[u8],
+    m: usize,
+    j: usize,
+    others: &[usize],
+    pos: usize,
+) -> Judged
+    ensures { λ r. ⌜ r ≡ concludeAt rule k (now (p .entry)) n i (now (line .entry)) (now (starts .entry)) (now (q .entry)) m j (now (others .entry)) pos ⌝ }
+{
+    let x = place(p, i);
+    let y = second(used(rule, 2), p, q, j);
+    let answer = row(rule, k, p, x, line, starts, q, y, others);
+    let end = claim(rule, k, p, n, i, x, line, starts, q, m, j, y, others, pos);
+    then_claim(answer, end == line.len())
+}
+
+// Checks 7 and 8 come before.
+fn settled(parents: bool, numbers: bool, answer: Judged) -> Judged
+    ensures { λ r. ⌜ r ≡ settledAs parents numbers answer ⌝ }
+{
+    if parents {
+        if numbers { answer } else { Judged::WrongNumber }
+    } else {
+        Judged::NoParent
+    }
+}
+
+// Checks 7 to 11 of a step that was read, over the parts of the text that begin with its parents; `own` is its own number.
+pub fn step(own: usize, p: &[u8], q: &[u8], line: &[u8], l: LineAt) -> Judged
+    ensures { λ r. ⌜ r ≡ stepAt own (now (p .entry)) (now (q .entry)) (now (line .entry)) l ⌝ }
+{
+    let rule = l.rule;
+    let a = measure(p);
+    let b = measure(q);
+    let first = list(line, l.first);
+    let second = list(line, l.second);
+    let zero = unused_zero(rule, l.a, l.i, l.b, l.j, l.k);
+    let fit = lists_fit(rule, l.firsts, l.seconds, a.width, b.width);
+    let below = parents_below(rule, own, l.a, l.b);
+    let answer = conclude(
+        rule,
+        l.k,
+        p,
+        a.count,
+        l.i,
+        line,
+        &first,
+        q,
+        b.count,
+        l.j,
+        &second,
+        l.clause,
+    );
+    settled(below, both(zero, fit), answer)
+}
+
+// Checks 7 to 11 of the step on a line that is read, with the parents from the text by the places that the state before the line holds.
+fn parts(text: &[u8], state: State, line: &[u8], l: LineAt) -> Judged
+    ensures { λ r. ⌜ r ≡ partsAt (now (text .entry)) state (now (line .entry)) l ⌝ }
+{
+    let rule = l.rule;
+    let held = state.starts;
+    let places = &held[..];
+    let p = parent(text, places, used(rule, 0), l.a);
+    let q = parent(text, places, used(rule, 2), l.b);
+    step(state.clauses, p, q, line, l)
+}
+
+// Checks 7 to 11 of the step that the line is.
+pub fn judge(text: &[u8], state: State, line: &[u8]) -> Judged
+    ensures { λ r. ⌜ r ≡ judgeAt (now (text .entry)) state (now (line .entry)) ⌝ }
+{
+    let l = read_form(line, &line[0..0]);
+    parts(text, state, line, l)
+}
