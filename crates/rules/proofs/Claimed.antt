@@ -1,13 +1,13 @@
 -- The other literals of a written clause, expected in the line.
-use Prim.Native.Nat.{ℕ, zero, suc, _+_, _-_, _≤_, _<_, max}
+use Prim.Native.Nat.{ℕ, _+_, _-_, _≤_, _<_}
 use mathlib.Core.Bool.{Bool, true, false, cond}
-use mathlib.Core.List.{List, [], _∷_, _++_, append-assoc}
-use mathlib.Core.Path.{_≡_, refl, sym, ap, subst, _∙_}
+use mathlib.Core.List.{List, [], _∷_, _++_}
+use mathlib.Core.Path.{_≡_, refl, sym, ap, _∙_}
 use native.Mathlib.Omega.{arith}
 use lib.Dec.{T, eqb}
 use lib.ListN.{length, drop}
 use Rattle.logic.specs.declared.Sign.{Sign}
-use Rattle.logic.specs.Syntax.{Term, Atom, Literal, lit, Clause}
+use Rattle.logic.specs.Syntax.{Atom, Literal, lit, Clause}
 use Rattle.logic.specs.Terms.{termsOf}
 use Rattle.logic.specs.Each.{termsWidth, width}
 use Rattle.logic.specs.Fill.{Substitution, fillLiteral, fillClause}
@@ -18,13 +18,13 @@ use Rattle.reader.specs.Form.{formedAtom, formedLiteral, formedClause}
 use Rattle.reader.specs.Read.{Parsed, bad, got, after, strip}
 use Rattle.reader.specs.Places.{endOf}
 use Rattle.reader.specs.Access.{entryOf}
-use Rattle.reader.proofs.Positions.{strip-tail, skip-tail, then-end}
+use Rattle.reader.proofs.Positions.{strip-tail, then-end}
 use Rattle.reader.proofs.Plain.{in-front, literal-plain}
 use Rattle.reader.proofs.Nesting.{skip-literal}
 use Rattle.reader.proofs.Heads.{strip-same}
 use Rattle.rules.specs.Filled.{fillItem, replacing, matches, endsOf}
 use Rattle.rules.specs.Shapes.{stripAt, skipAt}
-use Rattle.rules.specs.Claims.{filledAt, keptAt, othersFrom, othersAt}
+use Rattle.rules.specs.Claims.{filledAt, keptAt, othersFrom}
 use Rattle.rules.proofs.Filling.{after-it, fill-literal}
 use Rattle.rules.proofs.Placing.{Stands, strip-stands, skip-stands}
 
@@ -75,6 +75,14 @@ literal-opens : (l : Literal) (rest : List ℕ) → (more : List ℕ) × (putLit
 unfolding putLiteral
 literal-opens (lit g x) rest = (_, refl)
 
+-- A literal after a space, and what follows it.
+pub spaced-literal : (line : List ℕ) (l : Literal) (pos b : ℕ) (x : List ℕ) → stripAt line (32 ∷ putLiteral l (b ∷ x)) pos ≡ stripAt line (b ∷ x) (stripAt line (putLiteral l []) (stripAt line (bytes " ") pos))
+spaced-literal line l pos b x =
+    let o = literal-opens l [] in
+    ap (λ ws. stripAt line (32 ∷ ws) pos) (in-front (literal-plain l) (b ∷ x))
+    ∙ (strip-chain line (32 ∷ putLiteral l []) b x pos
+    ∙ ap (stripAt line (b ∷ x)) (ap (λ ws. stripAt line (32 ∷ ws) pos) (o .1) ∙ (strip-chain line (32 ∷ []) 40 (o .0) pos ∙ ap (λ ws. stripAt line ws (stripAt line (32 ∷ []) pos)) (sym (o .1)))))
+
 pub literals-open : (c : Clause) (b : ℕ) (x : List ℕ) → (d : ℕ) × (y : List ℕ) × (putLiterals c (b ∷ x) ≡ d ∷ y)
 unfolding putLiterals
 literals-open [] b x = (b, x, refl)
@@ -86,13 +94,10 @@ width-parts (lit g x) c w h = (omega arith, omega arith)
 
 module _ (p line starts : List ℕ) (σ : Substitution) (w : ℕ) (entry : Entries line starts σ w) where
   kept-claimed : {at : ℕ} (l : Literal) (rest : List ℕ) (pos b : ℕ) (x : List ℕ) → Stands p at (putLiteral l rest) → T (formedLiteral 16 l) → width (l ∷ []) ≤ w →
-      stripAt line ((32 ∷ putLiteral (fillLiteral σ l) []) ++ (b ∷ x)) pos ≡ stripAt line (b ∷ x) (keptAt p at false line starts pos)
+      stripAt line (32 ∷ putLiteral (fillLiteral σ l) (b ∷ x)) pos ≡ stripAt line (b ∷ x) (keptAt p at false line starts pos)
   unfolding keptAt formedLiteral width
   kept-claimed (lit g y) rest pos b x s f h =
-      let o = literal-opens (fillLiteral σ (lit g y)) [] in
-      let e = literal-claimed p line starts σ w entry g y rest (stripAt line (bytes " ") pos) s f (omega arith) in
-      strip-chain line (32 ∷ putLiteral (fillLiteral σ (lit g y)) []) b x pos
-      ∙ ap (stripAt line (b ∷ x)) (ap (λ ws. stripAt line (32 ∷ ws) pos) (o .1) ∙ (strip-chain line (32 ∷ []) 40 (o .0) pos ∙ (ap (λ ws. stripAt line ws (stripAt line (32 ∷ []) pos)) (sym (o .1)) ∙ sym e)))
+      spaced-literal line (fillLiteral σ (lit g y)) pos b x ∙ ap (stripAt line (b ∷ x)) (sym (literal-claimed p line starts σ w entry g y rest (stripAt line (bytes " ") pos) s f (omega arith)))
 
   -- One literal, dropped or kept, and those after it.
   one-more : (dropped n : ℕ) {begin : ℕ} (l : Literal) (c : Clause) (rest : List ℕ) (pos b : ℕ) (x : List ℕ) (next : ℕ → ℕ) → Stands p begin (putLiteral l rest) → T (formedLiteral 16 l) → width (l ∷ []) ≤ w →
@@ -102,12 +107,10 @@ module _ (p line starts : List ℕ) (σ : Substitution) (w : ℕ) (entry : Entri
   unfolding putLiterals fillClause keptAt
   one-more dropped n l c rest pos b x next s f h others true e = others pos
   one-more dropped n {begin} l c rest pos b x next s f h others false e =
-      let y = putLiterals (fillClause σ (withoutFrom (n + 1) dropped c)) (b ∷ x) in
       let o = literals-open (fillClause σ (withoutFrom (n + 1) dropped c)) b x in
-      ap (λ ws. stripAt line (32 ∷ ws) pos) (in-front (literal-plain (fillLiteral σ l)) y)
-      ∙ (ap (λ z. stripAt line ((32 ∷ putLiteral (fillLiteral σ l) []) ++ z) pos) (o .2)
+      ap (λ z. stripAt line (32 ∷ putLiteral (fillLiteral σ l) z) pos) (o .2)
       ∙ (kept-claimed l rest pos (o .0) (o .1) s f h
-      ∙ (ap (λ z. stripAt line z (keptAt p begin false line starts pos)) (sym (o .2)) ∙ others (keptAt p begin false line starts pos))))
+      ∙ (ap (λ z. stripAt line z (keptAt p begin false line starts pos)) (sym (o .2)) ∙ others (keptAt p begin false line starts pos)))
 
   pub others-claimed : (dropped : ℕ) {at : ℕ} (n : ℕ) (c : Clause) (rest : List ℕ) (pos b : ℕ) (x : List ℕ) → Stands p at (putLiterals c (word ")" rest)) → T (formedClause 16 c) → width c ≤ w →
       stripAt line (putLiterals (fillClause σ (withoutFrom n dropped c)) (b ∷ x)) pos ≡ stripAt line (b ∷ x) (othersFrom p dropped line starts (length c) n at pos)

@@ -40,7 +40,7 @@ plain-bare line starts = refl
 pub plain-clear : (line starts : List ℕ) (low high : ℕ) → Clear (plain line starts .hole) low high
 plain-clear line starts low high = after-it (omega (arith, plain-bare line starts))
 
-formed-more : (d e : ℕ) (t : Term) → T (formedTerm d t) → d ≤ e → T (formedTerm e t)
+pub formed-more : (d e : ℕ) (t : Term) → T (formedTerm d t) → d ≤ e → T (formedTerm e t)
 unfolding formedTerm
 formed-more d e t f h = let (m, n) = simp T-and at f in simp T-and (omega (arith, leb→le, le→leb), n)
 

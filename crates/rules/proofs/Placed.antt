@@ -1,24 +1,25 @@
--- A signature with another term as its object, its result or one of its arguments: filling with the hole there.
+-- A link with another second term, a signature with another object, result or argument: filling with the hole there.
 use Prim.Native.Nat.{ℕ, zero, suc, _≤_, _<_}
 use mathlib.Core.Path.{_≡_, refl, sym, _∙_, ap, subst}
 use mathlib.Core.List.{List, [], _∷_}
 use lib.Dec.{T}
 use lib.ListN.{length}
 use Rattle.logic.specs.declared.Sign.{Sign}
+use Rattle.logic.specs.declared.Link.{Link}
 use Rattle.logic.specs.declared.Arrow.{Arrow}
-use Rattle.logic.specs.Syntax.{Term, Terms, nil, cons, Result, value, none, Atom, method, Literal, lit}
+use Rattle.logic.specs.Syntax.{Term, Terms, cons, Result, value, Atom, link, method, lit}
 use Rattle.logic.specs.Terms.{termsOf}
 use Rattle.logic.specs.Each.{termsWidth}
 use Rattle.logic.specs.Fill.{Substitution, fill, fills, fillResult}
 use Rattle.logic.specs.Rules.{Placed}
-use Rattle.reader.specs.Words.{bytes, arrowWord}
+use Rattle.reader.specs.Words.{bytes, signWord, linkWord, arrowWord}
 use Rattle.reader.specs.Write.{Writer, word, putTerm, putTerms, putArguments, putResult, putLiteral}
 use Rattle.reader.specs.Form.{formedAtom}
 use Rattle.reader.specs.Read.{got}
-use Rattle.reader.proofs.Trees.{Tree, node, Trees, end, byte, part, putTree, putInside, Below, treeTerm, treeTerms, treeArguments, treeResult, treeAtom, treeLiteral, put-term, put-terms, put-arguments, put-result, put-literal, clean-literal, within-literal}
+use Rattle.reader.proofs.Trees.{Tree, node, Trees, end, byte, part, putTree, putInside, texts, Clean, Within, Below, treeTerm, treeTerms, treeArguments, treeResult, treeAtom, treeLiteral, put-term, put-terms, put-arguments, put-result, put-literal, clean-literal, within-literal}
 use Rattle.rules.specs.Filled.{Filler, fillItem}
-use Rattle.rules.proofs.Filling.{fillTree, fillTrees, trees, tree-term, tree-terms, tree-arguments, tree-result}
-use Rattle.rules.proofs.Holes.{Found, found, mapFound, turn, Held, Good, stack}
+use Rattle.rules.proofs.Filling.{fillTrees, trees, tree-term, tree-terms, tree-arguments, tree-result}
+use Rattle.rules.proofs.Holes.{found, mapFound, turn, Good, stack}
 use Rattle.rules.proofs.Spots.{Spot, here, within, SpotIn, skip, now, later, spot, spotIn, spot-held, atom-spot, spot-atom}
 
 -- Term t is argument k, and these are the arguments behind it.
@@ -38,7 +39,7 @@ argument-spot (next a) = within (later (spot-of a))
 
 module _ (σ : Substitution) (u : Term) where
   -- The arguments, filled, with u in place of argument k.
-  pub replaced : {t : Term} {k : ℕ} {ts more : Terms} → Argument t k ts more → Terms
+  unfoldable pub replaced : {t : Term} {k : ℕ} {ts more : Terms} → Argument t k ts more → Terms
   replaced (first {ts}) = cons u (fills σ ts)
   replaced (next {a} p) = cons (fill σ a) (replaced p)
 
@@ -85,26 +86,51 @@ module _ (σ : Substitution) (u : Term) (o m : Term) (ts : Terms) (t : Term) whe
   unfolding result-spot spotIn mapFound turn fillTrees treeResult putInside
   spots-result = rw (tree-term σ o, tree-term σ m, tree-arguments σ ts)
 
-module _ (f : Filler) (σ : Substitution) (w d D : ℕ) (entry : (n : ℕ) → n < w → f .entry n ≡ putTerm (σ n) []) (u : Term) (new : (e : ℕ) → D ≤ e → (r : List ℕ) × (f .new e ≡ got (putTerm u []) r)) (g : Sign) (a : Arrow) (o m : Term) (ts : Terms) (r : Result) (fx : T (formedAtom d (method a o m ts r))) (wx : termsWidth (termsOf (method a o m ts r)) ≤ w) where
-  -- A spot behind the word, and the literal that it leads to.
-  by-spot : (p : SpotIn (behind o m ts r)) (t : Term) (v : Writer) (o′ m′ : Term) (ts′ : Terms) (r′ : Result) → spotIn (trees σ) (treeTerm u) p ≡ found (treeTerm t) v (behind o′ m′ ts′ r′) → (rest left : List ℕ) → v (41 ∷ 41 ∷ rest) ≡ left → f .hole ≡ length (putTerm t left) → fillItem f (stack D (suc (suc (suc d)))) (putLiteral (lit g (method a o m ts r)) rest) ≡ got (putLiteral (lit g (method a o′ m′ ts′ r′)) []) rest
-  unfolding treeLiteral treeAtom
-  by-spot p t v o′ m′ ts′ r′ e rest left q h =
-      let s = atom-spot g (bytes (arrowWord a)) p in
-      let good = spot-held f (trees σ) (Below w) (λ n b. b .0) (λ n b. entry n (b .1) ∙ put-term (σ n) []) (treeTerm u) D (λ x i. (new x i .0, new x i .1 ∙ ap (λ b. got b (new x i .0)) (put-term u []))) s (suc (suc (suc d))) (clean-literal (lit g (method a o m ts r))) (within-literal w d g (method a o m ts r) fx wx) in
-      let held = subst (Good f (stack D (suc (suc (suc d)))) (treeLiteral (lit g (method a o m ts r)))) (spot-atom (trees σ) (treeTerm u) g (bytes (arrowWord a)) p e) good rest in
-      rw (put-literal (lit g (method a o m ts r)) rest, put-literal (lit g (method a o′ m′ ts′ r′)) []) (held .filled (h ∙ ap length (put-term t left ∙ ap (putTree (treeTerm t)) (sym q))))
+-- The terms of a link, and the second of them.
+abbrev pair : Term → Term → Trees
+pair t v = byte 32 (part (treeTerm t) (byte 32 (part (treeTerm v) end)))
 
-  -- "first, object S"
-  pub hole-object : (rest : List ℕ) → f .hole ≡ length (putTerm o (word " " (putTerm m (word " " (putArguments ts (word " " (putResult r (word ")" (word ")" rest))))))))) → fillItem f (stack D (suc (suc (suc d)))) (putLiteral (lit g (method a o m ts r)) rest) ≡ got (putLiteral (lit g (method a u (fill σ m) (fills σ ts) (fillResult σ r))) []) rest
-  unfolding putInside
-  hole-object rest h = by-spot (object-spot σ u o m ts r) o _ u (fill σ m) (fills σ ts) (fillResult σ r) (spots-object σ u o m ts r) rest _ (rw (put-result r (41 ∷ 41 ∷ rest), put-arguments ts _, put-term m _)) h
+second-spot : (t v : Term) → SpotIn (pair t v)
+second-spot t v = skip (later (skip (now here)))
 
-  -- "first, argument K is S"
-  pub hole-argument : {t : Term} {k : ℕ} {more : Terms} (p : Argument t k ts more) (rest : List ℕ) → f .hole ≡ length (putTerm t (putTerms more (word ")" (word " " (putResult r (word ")" (word ")" rest))))))) → fillItem f (stack D (suc (suc (suc d)))) (putLiteral (lit g (method a o m ts r)) rest) ≡ got (putLiteral (lit g (method a (fill σ o) (fill σ m) (replaced σ u p) (fillResult σ r))) []) rest
-  unfolding putInside
-  hole-argument {t} {more} p rest h = by-spot (in-arguments σ u o m ts r p) t _ (fill σ o) (fill σ m) (replaced σ u p) (fillResult σ r) (spots-in-arguments σ u o m ts r p) rest _ (rw (put-result r (41 ∷ 41 ∷ rest), put-terms more _)) h
+spots-second : (σ : Substitution) (u t v : Term) → spotIn (trees σ) (treeTerm u) (second-spot t v) ≡ found (treeTerm v) (λ rest. rest) (pair (fill σ t) u)
+unfolding second-spot spotIn mapFound turn fillTrees putInside
+spots-second σ u t v = rw (tree-term σ t)
 
--- "first, result S"
-pub hole-result : (f : Filler) (σ : Substitution) (w d D : ℕ) → ((n : ℕ) → n < w → f .entry n ≡ putTerm (σ n) []) → (u : Term) → ((e : ℕ) → D ≤ e → (r : List ℕ) × (f .new e ≡ got (putTerm u []) r)) → (g : Sign) (a : Arrow) (o m : Term) (ts : Terms) (t : Term) → T (formedAtom d (method a o m ts (value t))) → termsWidth (termsOf (method a o m ts (value t))) ≤ w → (rest : List ℕ) → f .hole ≡ length (putTerm t (word ")" (word ")" rest))) → fillItem f (stack D (suc (suc (suc d)))) (putLiteral (lit g (method a o m ts (value t))) rest) ≡ got (putLiteral (lit g (method a (fill σ o) (fill σ m) (fills σ ts) (value u))) []) rest
-hole-result f σ w d D entry u new g a o m ts t fx wx rest h = by-spot f σ w d D entry u new g a o m ts (value t) fx wx (result-spot σ u o m ts t) t (λ x. x) (fill σ o) (fill σ m) (fills σ ts) (value u) (spots-result σ u o m ts t) rest _ refl h
+-- A spot behind the word of an atom, and the literal that it leads to.
+module _ (f : Filler) (σ : Substitution) (w d D : ℕ) (entry : (n : ℕ) → n < w → f .entry n ≡ putTerm (σ n) []) (u : Term) (new : (e : ℕ) → D ≤ e → (r : List ℕ) × (f .new e ≡ got (putTerm u []) r)) (g : Sign) where
+  by-spot : (x : Atom) (wd : List ℕ) (ts : Trees) → treeAtom x ≡ node (texts wd ts) → T (formedAtom d x) → termsWidth (termsOf x) ≤ w → (p : SpotIn ts) (t : Term) (v : Writer) (x′ : Atom) (us : Trees) → treeAtom x′ ≡ node (texts wd us) → spotIn (trees σ) (treeTerm u) p ≡ found (treeTerm t) v us → (rest left : List ℕ) → v (41 ∷ 41 ∷ rest) ≡ left → f .hole ≡ length (putTerm t left) → fillItem f (stack D (suc (suc (suc d)))) (putLiteral (lit g x) rest) ≡ got (putLiteral (lit g x′) []) rest
+  unfolding treeLiteral
+  by-spot x wd ts shape fx wx p t v x′ us shape′ e rest left q h =
+      let around : Tree → Tree = λ y. node (texts (bytes (signWord g)) (byte 32 (part y end))) in
+      let s = atom-spot g wd p in
+      let good = spot-held f (trees σ) (Below w) (λ n b. b .0) (λ n b. entry n (b .1) ∙ put-term (σ n) []) (treeTerm u) D (λ x i. (new x i .0, new x i .1 ∙ ap (λ b. got b (new x i .0)) (put-term u []))) s (suc (suc (suc d))) (subst (λ y. Clean (around y)) shape (clean-literal (lit g x))) (subst (λ y. Within (Below w) (around y) (suc (suc (suc d)))) shape (within-literal w d g x fx wx)) in
+      let held = subst (Good f (stack D (suc (suc (suc d)))) (around (node (texts wd ts)))) (spot-atom (trees σ) (treeTerm u) g wd p e) good rest in
+      ap (fillItem f (stack D (suc (suc (suc d))))) (put-literal (lit g x) rest ∙ ap (λ y. putTree (around y) rest) shape)
+      ∙ (held .filled (h ∙ ap length (put-term t left ∙ ap (putTree (treeTerm t)) (sym q)))
+      ∙ ap (λ b. got b rest) (sym (put-literal (lit g x′) [] ∙ ap (λ y. putTree (around y) []) shape′)))
+
+  -- "r", the second term of a link
+  pub hole-second : (l : Link) (t v : Term) → T (formedAtom d (link l t v)) → termsWidth (termsOf (link l t v)) ≤ w → (rest : List ℕ) → f .hole ≡ length (putTerm v (word ")" (word ")" rest))) → fillItem f (stack D (suc (suc (suc d)))) (putLiteral (lit g (link l t v)) rest) ≡ got (putLiteral (lit g (link l (fill σ t) u)) []) rest
+  unfolding treeAtom
+  hole-second l t v fx wx rest h = by-spot (link l t v) (bytes (linkWord l)) (pair t v) refl fx wx (second-spot t v) v (λ x. x) (link l (fill σ t) u) (pair (fill σ t) u) refl (spots-second σ u t v) rest _ refl h
+
+  module _ (a : Arrow) (o m : Term) (ts : Terms) (r : Result) (fx : T (formedAtom d (method a o m ts r))) (wx : termsWidth (termsOf (method a o m ts r)) ≤ w) where
+    in-method : (p : SpotIn (behind o m ts r)) (t : Term) (v : Writer) (o′ m′ : Term) (ts′ : Terms) (r′ : Result) → spotIn (trees σ) (treeTerm u) p ≡ found (treeTerm t) v (behind o′ m′ ts′ r′) → (rest left : List ℕ) → v (41 ∷ 41 ∷ rest) ≡ left → f .hole ≡ length (putTerm t left) → fillItem f (stack D (suc (suc (suc d)))) (putLiteral (lit g (method a o m ts r)) rest) ≡ got (putLiteral (lit g (method a o′ m′ ts′ r′)) []) rest
+    unfolding treeAtom
+    in-method p t v o′ m′ ts′ r′ e rest left q h =
+        by-spot (method a o m ts r) (bytes (arrowWord a)) (behind o m ts r) refl fx wx p t v (method a o′ m′ ts′ r′) (behind o′ m′ ts′ r′) refl e rest left q h
+
+    -- "first, object S"
+    pub hole-object : (rest : List ℕ) → f .hole ≡ length (putTerm o (word " " (putTerm m (word " " (putArguments ts (word " " (putResult r (word ")" (word ")" rest))))))))) → fillItem f (stack D (suc (suc (suc d)))) (putLiteral (lit g (method a o m ts r)) rest) ≡ got (putLiteral (lit g (method a u (fill σ m) (fills σ ts) (fillResult σ r))) []) rest
+    unfolding putInside
+    hole-object rest h = in-method (object-spot σ u o m ts r) o _ u (fill σ m) (fills σ ts) (fillResult σ r) (spots-object σ u o m ts r) rest _ (rw (put-result r (41 ∷ 41 ∷ rest), put-arguments ts _, put-term m _)) h
+
+    -- "first, argument K is S"
+    pub hole-argument : {t : Term} {k : ℕ} {more : Terms} (p : Argument t k ts more) (rest : List ℕ) → f .hole ≡ length (putTerm t (putTerms more (word ")" (word " " (putResult r (word ")" (word ")" rest))))))) → fillItem f (stack D (suc (suc (suc d)))) (putLiteral (lit g (method a o m ts r)) rest) ≡ got (putLiteral (lit g (method a (fill σ o) (fill σ m) (replaced σ u p) (fillResult σ r))) []) rest
+    unfolding putInside
+    hole-argument {t} {more} p rest h = in-method (in-arguments σ u o m ts r p) t _ (fill σ o) (fill σ m) (replaced σ u p) (fillResult σ r) (spots-in-arguments σ u o m ts r p) rest _ (rw (put-result r (41 ∷ 41 ∷ rest), put-terms more _)) h
+
+  -- "first, result S"
+  pub hole-result : (a : Arrow) (o m : Term) (ts : Terms) (t : Term) → T (formedAtom d (method a o m ts (value t))) → termsWidth (termsOf (method a o m ts (value t))) ≤ w → (rest : List ℕ) → f .hole ≡ length (putTerm t (word ")" (word ")" rest))) → fillItem f (stack D (suc (suc (suc d)))) (putLiteral (lit g (method a o m ts (value t))) rest) ≡ got (putLiteral (lit g (method a (fill σ o) (fill σ m) (fills σ ts) (value u))) []) rest
+  hole-result a o m ts t fx wx rest h = in-method a o m ts (value t) fx wx (result-spot σ u o m ts t) t (λ x. x) (fill σ o) (fill σ m) (fills σ ts) (value u) (spots-result σ u o m ts t) rest _ refl h

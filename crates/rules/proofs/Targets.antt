@@ -3,39 +3,60 @@ use Prim.Native.Nat.{ℕ, zero, suc, _+_, _≤_, _<_}
 use mathlib.Core.Bool.{Bool, true, false, cond, true≢false}
 use mathlib.Core.List.{List, [], _∷_}
 use mathlib.Core.Logic.{_⊎_, inl, inr, ite}
-use mathlib.Core.Path.{_≡_, refl, sym, ap, subst, _∙_}
+use mathlib.Core.Path.{_≡_, refl, sym, ap, _∙_}
 use native.Mathlib.Omega.{arith}
-use lib.Dec.{T, eqb}
+use lib.Dec.{T, eqb, leb→le, le→leb}
 use lib.ListN.{length, drop}
 use Rattle.logic.specs.declared.Sign.the-variants.{Positive, Negative}
 use Rattle.logic.specs.declared.Link.{Link}
 use Rattle.logic.specs.declared.Link.the-variants.{Eq, Mem, Sub}
 use Rattle.logic.specs.declared.Arrow.{Arrow}
 use Rattle.logic.specs.declared.Arrow.the-variants.{Sv, Si, Mv, Mi, St, Mt}
-use Rattle.logic.specs.declared.Rule.the-variants.{Tra, Inc, Inh, Inp, Out}
+use Rattle.logic.specs.declared.Rule.{Rule}
+use Rattle.logic.specs.declared.Rule.the-variants.{Refl, Res, Fac, Par, Acy, Tra, Inc, Inh, Inp, Out, Sca, Eli}
 use Rattle.logic.specs.Syntax.{Term, Terms, nil, cons, Result, value, none, Atom, link, obj, method, Literal, lit}
 use Rattle.logic.specs.Equality.{link?, linkNumber, linkAt, link-back}
-use Rattle.logic.specs.Fill.{Substitution, fill}
+use Rattle.logic.specs.Terms.{join, resultTerms, termsOf}
+use Rattle.logic.specs.Each.{termWidth, termsWidth, width}
+use Rattle.logic.specs.Fill.{Substitution, fill, fills, fillResult}
 use Rattle.logic.specs.Rules.{signature, plus}
 use Rattle.logic.proofs.Rewriting.{Argument, Target, Aim, misses, hits, linkAim, resultAim, methodAim, objectAim, outputAim, inputAim, argumentAim, positiveAim, aim}
+use Rattle.logic.proofs.Both.{right}
 use Rattle.reader.specs.Words.{bytes}
-use Rattle.reader.specs.Write.{word, putTerm, putArguments, putResult, putAtom, putLiteral}
+use Rattle.reader.specs.Write.{word, putTerm, putTerms, putArguments, putResult, putAtom, putLiteral}
+use Rattle.reader.specs.Form.{depthOfs, numbereds, formedTerm, formedTerms, formedResult, formedAtom, formedLiteral}
 use Rattle.reader.specs.Read.{Parsed, bad, got, strip}
 use Rattle.reader.specs.Places.{endOf}
 use Rattle.reader.specs.Access.{opening, toArgument}
-use Rattle.reader.proofs.Nesting.{fromItem, listed, argument-item}
-use Rattle.reader.proofs.Tests.{onTest}
+use Rattle.reader.proofs.Nesting.{fromItem, listed, terms-each, argument-item}
+use Rattle.reader.proofs.Trees.{join-width}
+use Rattle.reader.proofs.Tests.{T-and, onTest}
 use Rattle.reader.proofs.Gives.{Gives, nothing, gives}
 use Rattle.reader.proofs.Positions.{Tail, End, end-refl, strip-tail, skip-tail, item-tail, and-tail}
 use Rattle.reader.specs.Heads.{linkKind, arrowKind, kindNumber, head}
 use Rattle.reader.proofs.Heads.{afterHead}
 use Rattle.rules.specs.Shapes.{stripAt, nextAt, positiveAt, firstAt, orElse, ifPlace, resultAt, objectAt, argumentAt, targetAt}
-use Rattle.rules.proofs.Placing.{Stands, walk-stands, walk-past, none-past, fromMethod, past-inner, past-object, past-result, result-stands, either-past, either-stands, object-of, object-none, next-arguments, next-term, past-next, past-strip, positive-stands, negative-past, head-stands, head-past}
+use Rattle.rules.specs.Filled.{Filler, fillItem}
+use Rattle.rules.proofs.Holes.{stack}
+use Rattle.rules.proofs.Placed.{Argument as Chosen, first, next, replaced, hole-second, hole-object, hole-argument, hole-result}
+use Rattle.rules.proofs.Placing.{Stands, walk-stands, walk-past, none-past, fromMethod, past-inner, past-object, past-result, result-stands, either-past, either-stands, object-of, object-none, next-term, past-next, past-strip, positive-stands, negative-past, head-stands, head-past}
+
+-- A target of the literal l, which `rest` follows: it is formed, its variables are below w, and filling with the hole at it, which `left` follows, puts
+-- another term in its place.
+pub record Hole (w : ℕ) (l : Literal) (rest : List ℕ) (t : Target) (left : List ℕ) : Type 0 where
+  pub formed : T (formedTerm 16 (t .term))
+  pub narrow : termWidth (t .term) ≤ w
+  pub filled : (f : Filler) (σ : Substitution) (u : Term) → ((n : ℕ) → n < w → f .entry n ≡ putTerm (σ n) []) → ((e : ℕ) → 16 ≤ e → (r : List ℕ) × (f .new e ≡ got (putTerm u []) r)) →
+      f .hole ≡ length (putTerm (t .term) left) → fillItem f 35 (putLiteral l rest) ≡ got (putLiteral (t .with σ u) []) rest
 
 -- A place of what is aimed at.
-pub data Placed (p : List ℕ) (x : ℕ) : Aim → Type 0 where
-  missed : x ≡ length p + 1 → Placed p x misses
-  found : (t : Target) (rest : List ℕ) → Stands p x (putTerm (t .term) rest) → Placed p x (hits t)
+pub data Placed (p : List ℕ) (x w : ℕ) (l : Literal) (rest : List ℕ) : Aim → Type 0 where
+  missed : x ≡ length p + 1 → Placed p x w l rest misses
+  found : (t : Target) (left : List ℕ) → Stands p x (putTerm (t .term) left) → Hole w l rest t left → Placed p x w l rest (hits t)
+
+-- A formed atom, its variables below w.
+abbrev Fits : ℕ → Atom → Type 0
+Fits w x = T (formedAtom 16 x) × (termsWidth (termsOf x) ≤ w)
 
 -- A link's kind tells the link.
 link-number : (k : Link) → linkNumber k ≡ linkKind k
@@ -45,16 +66,16 @@ link-number = elim [ Eq ↦ refl | Mem ↦ refl | Sub ↦ refl ]
 pub kind-link : (k l : Link) → linkKind k ≡ linkKind l → k ≡ l
 kind-link k l e = sym (link-back k) ∙ (ap linkAt (link-number k ∙ (e ∙ sym (link-number l))) ∙ link-back l)
 
-pub link-below : (k : Link) → linkKind k < 10
-link-below = elim [ Eq ↦ omega arith | Mem ↦ omega arith | Sub ↦ omega arith ]
+link-low : (k : Link) → linkKind k < 3
+link-low = elim [ Eq ↦ omega arith | Mem ↦ omega arith | Sub ↦ omega arith ]
 
--- A link is no arrow.
+-- A link is no object and no arrow.
+pub link-object : (k : Link) → linkKind k ≡ 3 → ⊥
+link-object k e = omega (arith, link-low k)
+
 pub link-arrow : (k : Link) (a : Arrow) → linkKind k ≡ arrowKind a → ⊥
-link-arrow k a e = omega (arith, low k, high a)
+link-arrow k a e = omega (arith, link-low k, high a)
   where
-    low : (k : Link) → linkKind k < 3
-    low = elim [ Eq ↦ omega arith | Mem ↦ omega arith | Sub ↦ omega arith ]
-
     high : (a : Arrow) → 4 ≤ arrowKind a
     high = elim [ Sv ↦ omega arith | Si ↦ omega arith | Mv ↦ omega arith | Mi ↦ omega arith | St ↦ omega arith | Mt ↦ omega arith ]
 
@@ -72,55 +93,108 @@ argument-tail zero = and-tail (strip-tail (40 ∷ [])) opening-tail
 argument-tail (suc k) = and-tail (and-tail (strip-tail (40 ∷ [])) skip-tail) (item-tail k)
 
 -- Argument k, as it is written and as it is aimed at.
-data Written : Parsed (Unit {0}) → Aim → Type 0 where
-  absent : Written bad misses
-  present : (t : Target) (rest : List ℕ) → Written (got tt (putTerm (t .term) rest)) (hits t)
+data Written (k : ℕ) (ts : Terms) (rest : List ℕ) (f : Argument → Aim) : Parsed (Unit {0}) → Aim → Type 0 where
+  absent : Written k ts rest f bad misses
+  present : {t : Term} {more : Terms} (a : Chosen t k ts more) → Written k ts rest f (got tt (putTerm t (putTerms more rest))) (f (record { term = t; with = λ σ u. replaced σ u a }))
 
-argument-written : (k : ℕ) (ts : Terms) (w : Argument → Substitution → Term → Literal) (rest : List ℕ) →
-    Written (fromItem putTerm (drop k (listed ts)) rest) (argumentAim k ts (λ a. hits (record { term = a .term; with = w a })))
-unfolding fromItem listed argumentAim
-argument-written zero nil w rest = absent
-argument-written (suc k) nil w rest = absent
-argument-written zero (cons t ts) w rest = present _ _
-argument-written (suc k) (cons t ts) w rest = argument-written k ts (λ a. w (record { term = a .term; with = λ σ u. cons (fill σ t) (a .with σ u) })) rest
+argument-written : (k : ℕ) (ts : Terms) (f : Argument → Aim) (rest : List ℕ) → Written k ts rest f (fromItem putTerm (drop k (listed ts)) rest) (argumentAim k ts f)
+unfolding fromItem listed argumentAim replaced
+argument-written zero nil f rest = absent
+argument-written (suc k) nil f rest = absent
+argument-written zero (cons t ts) f rest = rw (← terms-each ts rest) (present first)
+argument-written (suc k) (cons t ts) f rest = go (argument-written k ts inner rest)
+  where
+    inner : Argument → Aim
+    inner g = f (record { term = g .term; with = λ σ u. cons (fill σ t) (g .with σ u) })
+
+    go : {q : Parsed (Unit {0})} {a : Aim} → Written k ts rest inner q a → Written (suc k) (cons t ts) rest f q a
+    go absent = absent
+    go (present a) = present (next a)
+
+-- An argument is formed, and no wider than the terms that it is among.
+chosen-formed : {t : Term} {k : ℕ} {ts more : Terms} → Chosen t k ts more → T (formedTerms 16 ts) → T (formedTerm 16 t)
+unfolding formedTerms formedTerm depthOfs numbereds
+chosen-formed (first {ts}) h = let (m, n) = simp T-and at h in simp T-and (omega (arith, leb→le, le→leb), n .0)
+chosen-formed (next {a} {ts} p) h = let (m, n) = simp T-and at h in chosen-formed p (simp T-and (omega (arith, leb→le, le→leb), n .1))
+
+chosen-narrow : {t : Term} {k : ℕ} {ts more : Terms} → Chosen t k ts more → (us : Terms) → termWidth t ≤ termsWidth (join ts us)
+unfolding join termsWidth
+chosen-narrow first us = omega arith
+chosen-narrow (next p) us = omega (arith, chosen-narrow p us)
+
+-- The targets in a link and in a signature.
+module _ (w : ℕ) (rest : List ℕ) where
+  second-hole : (l : Link) (t u : Term) → Fits w (link l t u) → Hole w (plus (link l t u)) rest (record { term = u; with = λ σ v. plus (link l (fill σ t) v) }) (word ")" (word ")" rest))
+  unfolding formedAtom termsOf termsWidth stack
+  second-hole l t u fits =
+      record {
+        formed = right (formedTerm 16 t) (formedTerm 16 u) (fits .0);
+        narrow = omega (arith, fits .1);
+        filled = λ f σ v entry new h. hole-second f σ w 16 16 entry v new Positive l t u (fits .0) (fits .1) rest h;
+      }
+
+  module _ (a : Arrow) (o m : Term) (ts : Terms) (r : Term) (fits : Fits w (method a o m ts (value r))) where
+    object-hole : Hole w (plus (method a o m ts (value r))) rest (record { term = o; with = λ σ u. plus (method a u (fill σ m) (fills σ ts) (value (fill σ r))) })
+        (word " " (putTerm m (word " " (putArguments ts (word " " (putResult (value r) (word ")" (word ")" rest))))))))
+    unfolding formedAtom termsOf termsWidth stack fillResult
+    object-hole =
+        let ((p, g), k) = simp T-and at (fits .0) in
+        record {
+          formed = p .0;
+          narrow = omega (arith, fits .1);
+          filled = λ f σ u entry new h. hole-object f σ w 16 16 entry u new Positive a o m ts (value r) (fits .0) (fits .1) rest h;
+        }
+
+    argument-hole : {t : Term} {k : ℕ} {more : Terms} (c : Chosen t k ts more) →
+        Hole w (plus (method a o m ts (value r))) rest (record { term = t; with = λ σ u. plus (method a (fill σ o) (fill σ m) (replaced σ u c) (value (fill σ r))) })
+        (putTerms more (word ")" (word " " (putResult (value r) (word ")" (word ")" rest))))))
+    unfolding formedAtom termsOf termsWidth stack fillResult
+    argument-hole c =
+        let ((p, g), k) = simp T-and at (fits .0) in
+        record {
+          formed = chosen-formed c g;
+          narrow = omega (arith, fits .1, chosen-narrow c (resultTerms (value r)));
+          filled = λ f σ u entry new h. hole-argument f σ w 16 16 entry u new Positive a o m ts (value r) (fits .0) (fits .1) c rest h;
+        }
+
+    result-hole : Hole w (plus (method a o m ts (value r))) rest (record { term = r; with = λ σ u. plus (method a (fill σ o) (fill σ m) (fills σ ts) (value u)) }) (word ")" (word ")" rest))
+    unfolding formedAtom formedResult termsOf resultTerms termsWidth stack
+    result-hole =
+        let ((p, g), k) = simp T-and at (fits .0) in
+        record {
+          formed = k;
+          narrow = omega (arith, fits .1, join-width ts (cons r nil));
+          filled = λ f σ u entry new h. hole-result f σ w 16 16 entry u new Positive a o m ts r (fits .0) (fits .1) rest h;
+        }
+
+-- st and mt are the signatures.
+signature-kind : (a : Arrow) → T (signature a) → (8 ≡ arrowKind a) ⊎ (9 ≡ arrowKind a)
+unfolding signature
+signature-kind Sv h = absurd h
+signature-kind Si h = absurd h
+signature-kind Mv h = absurd h
+signature-kind Mi h = absurd h
+signature-kind St h = inl refl
+signature-kind Mt h = inr refl
+
+kind-signature : (a : Arrow) → (signature a ≡ false) → (8 ≡ arrowKind a → ⊥) × (9 ≡ arrowKind a → ⊥)
+unfolding signature
+kind-signature Sv h = (λ e. omega arith, λ e. omega arith)
+kind-signature Si h = (λ e. omega arith, λ e. omega arith)
+kind-signature Mv h = (λ e. omega arith, λ e. omega arith)
+kind-signature Mi h = (λ e. omega arith, λ e. omega arith)
+kind-signature St h = absurd (true≢false h)
+kind-signature Mt h = absurd (true≢false h)
 
 module _ (p : List ℕ) where
   -- The second term of a link, from its atom on.
   pub link-past : (k : Link) {at : ℕ} (x : Atom) (rest : List ℕ) → (linkKind k ≡ kindNumber x → ⊥) → Stands p at (putAtom x rest) → nextAt p (stripAt p (head (linkKind k)) at) ≡ length p + 1
-  link-past k x rest e s = ap (nextAt p) (head-past p (linkKind k) x rest (link-below k) e s) ∙ past-next p
+  link-past k x rest e s = ap (nextAt p) (head-past p (linkKind k) x rest (omega (arith, link-low k)) e s) ∙ past-next p
 
-  link-placed : (k : Link) {at : ℕ} (x : Atom) (rest : List ℕ) → Stands p at (putAtom x rest) → Placed p (nextAt p (stripAt p (head (linkKind k)) at)) (linkAim k x)
-  unfolding linkAim kindNumber afterHead
-  link-placed k {at} (link l t u) rest s = go (link? k l)
-    where
-      here : Target
-      here = record { term = u; with = λ σ v. plus (link k (fill σ t) v) }
-
-      go : (d : Dec (k ≡ l)) → Placed p (nextAt p (stripAt p (head (linkKind k)) at)) (ite d (hits here) misses)
-      go (yes e) = found here (word ")" rest) (next-term p t (rw (ap linkKind e) (head-stands p (link l t u) rest s)))
-      go (no e) = missed (link-past k (link l t u) rest (λ h. e (kind-link k l h)) s)
-  link-placed k (obj t) rest s = missed (link-past k (obj t) rest (λ h. omega (arith, link-below k, small k)) s)
-    where
-      small : (k : Link) → linkKind k < 3
-      small = elim [ Eq ↦ omega arith | Mem ↦ omega arith | Sub ↦ omega arith ]
-  link-placed k (method a o m ts r) rest s = missed (link-past k (method a o m ts r) rest (link-arrow k a) s)
-
-  positive-placed : {at : ℕ} (l : Literal) (rest : List ℕ) (f : ℕ → ℕ) (g : Atom → Aim) → f (length p + 1) ≡ length p + 1 →
-      ((x : Atom) (at : ℕ) → Stands p at (putAtom x (word ")" rest)) → Placed p (f at) (g x)) →
-      Stands p at (putLiteral l rest) → Placed p (f (positiveAt p at)) (positiveAim l g)
-  unfolding positiveAim
-  positive-placed (lit Positive x) rest f g e h s = h x _ (positive-stands p x rest s)
-  positive-placed (lit Negative x) rest f g e h s = missed (ap f (negative-past p x rest s) ∙ e)
-
-  pub tra-placed : {at : ℕ} (k : ℕ) (l : Literal) (rest : List ℕ) → Stands p at (putLiteral l rest) → Placed p (targetAt p Tra k at) (aim k Tra l)
-  unfolding targetAt firstAt aim
-  tra-placed k l rest s =
-      positive-placed l rest (λ at. nextAt p (stripAt p (head 2) at)) (linkAim Sub) (ap (nextAt p) (past-strip p 40 _) ∙ past-next p) (λ x at w. link-placed Sub x (word ")" rest) w) s
-
-  pub inc-placed : {at : ℕ} (k : ℕ) (l : Literal) (rest : List ℕ) → Stands p at (putLiteral l rest) → Placed p (targetAt p Inc k at) (aim k Inc l)
-  unfolding targetAt firstAt aim
-  inc-placed k l rest s =
-      positive-placed l rest (λ at. nextAt p (stripAt p (head 1) at)) (linkAim Mem) (ap (nextAt p) (past-strip p 40 _) ∙ past-next p) (λ x at w. link-placed Mem x (word ")" rest) w) s
+  pub past-link : (k : Link) → nextAt p (stripAt p (head (linkKind k)) (length p + 1)) ≡ length p + 1
+  past-link Eq = ap (nextAt p) (past-strip p 40 _) ∙ past-next p
+  past-link Mem = ap (nextAt p) (past-strip p 40 _) ∙ past-next p
+  past-link Sub = ap (nextAt p) (past-strip p 40 _) ∙ past-next p
 
   -- The object of a signature with a term result, from its atom on.
   abbrev signatureFrom : ℕ → ℕ
@@ -128,77 +202,133 @@ module _ (p : List ℕ) where
       let o = orElse p (stripAt p (head 8) at) (stripAt p (head 9) at) in
       ifPlace p (stripAt p (bytes "(") (resultAt p o)) o
 
-  -- st and mt are the signatures.
-  signature-kind : (a : Arrow) → T (signature a) → (8 ≡ arrowKind a) ⊎ (9 ≡ arrowKind a)
-  unfolding signature
-  signature-kind Sv h = absurd h
-  signature-kind Si h = absurd h
-  signature-kind Mv h = absurd h
-  signature-kind Mi h = absurd h
-  signature-kind St h = inl refl
-  signature-kind Mt h = inr refl
-
-  kind-signature : (a : Arrow) → (signature a ≡ false) → (8 ≡ arrowKind a → ⊥) × (9 ≡ arrowKind a → ⊥)
-  unfolding signature
-  kind-signature Sv h = (λ e. omega arith, λ e. omega arith)
-  kind-signature Si h = (λ e. omega arith, λ e. omega arith)
-  kind-signature Mv h = (λ e. omega arith, λ e. omega arith)
-  kind-signature Mi h = (λ e. omega arith, λ e. omega arith)
-  kind-signature St h = absurd (true≢false h)
-  kind-signature Mt h = absurd (true≢false h)
-
   past-signature : signatureFrom (length p + 1) ≡ length p + 1
   past-signature = ap (λ o. ifPlace p (stripAt p (bytes "(") (resultAt p o)) o) (past-inner p 8 9 40 40 _ _ refl refl) ∙ past-object p
 
   other-signature : {at : ℕ} (x : Atom) (rest : List ℕ) → (8 ≡ kindNumber x → ⊥) → (9 ≡ kindNumber x → ⊥) → Stands p at (putAtom x rest) → signatureFrom at ≡ length p + 1
   other-signature x rest e f s = ap (λ o. ifPlace p (stripAt p (bytes "(") (resultAt p o)) o) (either-past p 8 9 x rest (omega arith) (omega arith) e f s) ∙ past-object p
 
-  -- What is aimed at in a signature: where the object stands, the walk from there finds it.
-  method-placed : {at : ℕ} (x : Atom) (rest : List ℕ) (f : ℕ → ℕ) (g : Arrow → Term → Term → Terms → Term → Aim) → f (length p + 1) ≡ length p + 1 →
-      ((a : Arrow) (o m : Term) (ts : Terms) (r : Term) (at : ℕ) → Stands p at (putTerm o (word " " (fromMethod p m ts (value r) rest))) → Placed p (f at) (g a o m ts r)) →
-      Stands p at (putAtom x rest) → Placed p (f (signatureFrom at)) (methodAim x g)
-  unfolding methodAim resultAim kindNumber afterHead
-  method-placed (link l t u) rest f g e h s = missed (ap f (other-signature (link l t u) rest (λ w. link-arrow l St (sym w)) (λ w. link-arrow l Mt (sym w)) s) ∙ e)
-  method-placed (obj t) rest f g e h s = missed (ap f (other-signature (obj t) rest (λ w. omega arith) (λ w. omega arith) s) ∙ e)
-  method-placed {at} (method a o m ts r) rest f g e h s = go (signature a) refl r s
-    where
-      go : (b : Bool) → signature a ≡ b → (r : Result) → Stands p at (putAtom (method a o m ts r) rest) → Placed p (f (signatureFrom at)) (cond b (resultAim r (g a o m ts)) misses)
-      go true d (value r) s =
-          let w = either-stands p 8 9 (method a o m ts (value r)) rest (omega arith) (signature-kind a (rw d tt)) s in
-          rw (object-of p o m ts r rest w) (h a o m ts r _ w)
-      go true d none s = missed (ap f (object-none p o m ts rest (either-stands p 8 9 (method a o m ts none) rest (omega arith) (signature-kind a (rw d tt)) s)) ∙ e)
-      go false d r s = missed (ap f (other-signature (method a o m ts r) rest (kind-signature a d .0) (kind-signature a d .1) s) ∙ e)
-
-  -- The three places that are aimed at in a signature.
-  pub inh-placed : {at : ℕ} (k : ℕ) (l : Literal) (rest : List ℕ) → Stands p at (putLiteral l rest) → Placed p (targetAt p Inh k at) (aim k Inh l)
-  unfolding targetAt objectAt aim objectAim
-  inh-placed k l rest s =
-      positive-placed l rest signatureFrom _ past-signature (λ x at w. method-placed x (word ")" rest) (λ o. o) objectAim refl (λ a o m ts r at v. found _ _ v) w) s
-
-  pub out-placed : {at : ℕ} (k : ℕ) (l : Literal) (rest : List ℕ) → Stands p at (putLiteral l rest) → Placed p (targetAt p Out k at) (aim k Out l)
-  unfolding targetAt objectAt aim outputAim putResult
-  out-placed k l rest s =
-      positive-placed l rest (λ at. resultAt p (signatureFrom at)) _ (ap (resultAt p) past-signature ∙ past-result p) (λ x at w.
-      method-placed x (word ")" rest) (resultAt p) outputAim (past-result p) (λ a o m ts r at v. found _ _ (result-stands p o m ts (value r) (word ")" rest) v)) w) s
-
-  argument-placed : {at : ℕ} (k : ℕ) (ts : Terms) (w : Argument → Substitution → Term → Literal) (rest : List ℕ) → Stands p at (putArguments ts rest) →
-      Placed p (argumentAt p at k) (argumentAim k ts (λ a. hits (record { term = a .term; with = w a })))
-  unfolding argumentAt
-  argument-placed {at} k ts w rest s = go (argument-item ts k rest) (argument-written k ts w (word ")" rest))
-    where
-      go : {q : Parsed (Unit {0})} {a : Aim} → toArgument k (putArguments ts rest) ≡ q → Written q a → Placed p (endOf p (toArgument k (drop at p))) a
-      go e absent = missed (walk-past p at (toArgument k) s e)
-      go e (present t more) = found t more (walk-stands p at (argument-tail k) s e)
-
   past-argument : (k : ℕ) → argumentAt p (length p + 1) k ≡ length p + 1
   unfolding argumentAt toArgument strip
   past-argument zero = none-past p (toArgument zero) refl
   past-argument (suc k) = none-past p (toArgument (suc k)) refl
 
-  pub inp-placed : {at : ℕ} (k : ℕ) (l : Literal) (rest : List ℕ) → Stands p at (putLiteral l rest) → Placed p (targetAt p Inp k at) (aim k Inp l)
-  unfolding targetAt objectAt aim inputAim
-  inp-placed k l rest s =
+  past-input : (k : ℕ) → argumentAt p (nextAt p (nextAt p (length p + 1))) k ≡ length p + 1
+  past-input k = ap (λ a. argumentAt p (nextAt p a) k) (past-next p) ∙ (ap (λ a. argumentAt p a k) (past-next p) ∙ past-argument k)
+
+  -- A literal that is missing has no target.
+  past-positive : positiveAt p (length p + 1) ≡ length p + 1
+  unfolding positiveAt
+  past-positive = past-strip p 40 _
+
+  pub past-second : (k : Link) → nextAt p (firstAt p (head (linkKind k)) (length p + 1)) ≡ length p + 1
+  unfolding firstAt
+  past-second k = rw past-positive (past-link k)
+
+  past-object-at : objectAt p (bytes "(st ") (bytes "(mt ") (length p + 1) ≡ length p + 1
+  unfolding objectAt
+  past-object-at = rw past-positive past-signature
+
+  pub past-target : (rule : Rule) (k : ℕ) → targetAt p rule k (length p + 1) ≡ length p + 1
+  unfolding targetAt
+  past-target Refl k = refl
+  past-target Res k = refl
+  past-target Fac k = refl
+  past-target Par k = refl
+  past-target Acy k = refl
+  past-target Tra k = past-second Sub
+  past-target Inc k = past-second Mem
+  past-target Inh k = past-object-at
+  past-target Inp k = ap (λ o. argumentAt p (nextAt p (nextAt p o)) k) past-object-at ∙ past-input k
+  past-target Out k = ap (resultAt p) past-object-at ∙ past-result p
+  past-target Sca k = refl
+  past-target Eli k = refl
+
+-- Where the targets of a literal stand.
+module _ (p : List ℕ) (w : ℕ) where
+  link-placed : (k : Link) {at : ℕ} (x : Atom) (rest : List ℕ) → Fits w x → Stands p at (putAtom x (word ")" rest)) → Placed p (nextAt p (stripAt p (head (linkKind k)) at)) w (plus x) rest (linkAim k x)
+  unfolding linkAim kindNumber afterHead
+  link-placed k {at} (link l t u) rest fits s = go (link? k l)
+    where
+      here : Link → Target
+      here k = record { term = u; with = λ σ v. plus (link k (fill σ t) v) }
+
+      go : (d : Dec (k ≡ l)) → Placed p (nextAt p (stripAt p (head (linkKind k)) at)) w (plus (link l t u)) rest (ite d (hits (here k)) misses)
+      go (yes e) = rw e (found (here l) (word ")" (word ")" rest)) (next-term p t (head-stands p (link l t u) (word ")" rest) s)) (second-hole w rest l t u fits))
+      go (no e) = missed (link-past p k (link l t u) (word ")" rest) (λ h. e (kind-link k l h)) s)
+  link-placed k (obj t) rest fits s = missed (link-past p k (obj t) (word ")" rest) (link-object k) s)
+  link-placed k (method a o m ts r) rest fits s = missed (link-past p k (method a o m ts r) (word ")" rest) (link-arrow k a) s)
+
+  positive-placed : {at : ℕ} (l : Literal) (rest : List ℕ) (f : ℕ → ℕ) (g : Atom → Aim) → f (length p + 1) ≡ length p + 1 →
+      ((x : Atom) (at : ℕ) → Fits w x → Stands p at (putAtom x (word ")" rest)) → Placed p (f at) w (plus x) rest (g x)) →
+      Stands p at (putLiteral l rest) → T (formedLiteral 16 l) → width (l ∷ []) ≤ w → Placed p (f (positiveAt p at)) w l rest (positiveAim l g)
+  unfolding positiveAim formedLiteral width
+  positive-placed (lit Positive x) rest f g e h s i n = h x _ (i, omega arith) (positive-stands p x rest s)
+  positive-placed (lit Negative x) rest f g e h s i n = missed (ap f (negative-past p x rest s) ∙ e)
+
+  -- What a literal at a place of p gives: where its target is.
+  abbrev pub Aimed : Rule → Type 0
+  Aimed rule = (at k : ℕ) (l : Literal) (rest : List ℕ) → Stands p at (putLiteral l rest) → T (formedLiteral 16 l) → width (l ∷ []) ≤ w → Placed p (targetAt p rule k at) w l rest (aim k rule l)
+
+  pub tra-placed : Aimed Tra
+  unfolding targetAt firstAt aim
+  tra-placed at k l rest =
+      positive-placed l rest (λ at. nextAt p (stripAt p (head 2) at)) (linkAim Sub) (past-link p Sub) (λ x at i s. link-placed Sub x rest i s)
+
+  pub inc-placed : Aimed Inc
+  unfolding targetAt firstAt aim
+  inc-placed at k l rest =
+      positive-placed l rest (λ at. nextAt p (stripAt p (head 1) at)) (linkAim Mem) (past-link p Mem) (λ x at i s. link-placed Mem x rest i s)
+
+  -- What is aimed at in a signature: where the object stands, the walk from there finds it.
+  method-placed : {at : ℕ} (x : Atom) (rest : List ℕ) (f : ℕ → ℕ) (g : Arrow → Term → Term → Terms → Term → Aim) → f (length p + 1) ≡ length p + 1 →
+      ((a : Arrow) (o m : Term) (ts : Terms) (r : Term) (at : ℕ) → Fits w (method a o m ts (value r)) → Stands p at (putTerm o (word " " (fromMethod p m ts (value r) (word ")" rest)))) →
+      Placed p (f at) w (plus (method a o m ts (value r))) rest (g a o m ts r)) →
+      Fits w x → Stands p at (putAtom x (word ")" rest)) → Placed p (f (signatureFrom p at)) w (plus x) rest (methodAim x g)
+  unfolding methodAim resultAim kindNumber afterHead
+  method-placed (link l t u) rest f g e h i s =
+      missed (ap f (other-signature p (link l t u) (word ")" rest) (λ w. link-arrow l St (sym w)) (λ w. link-arrow l Mt (sym w)) s) ∙ e)
+  method-placed (obj t) rest f g e h i s = missed (ap f (other-signature p (obj t) (word ")" rest) (λ w. omega arith) (λ w. omega arith) s) ∙ e)
+  method-placed {at} (method a o m ts r) rest f g e h i s = go (signature a) refl r i s
+    where
+      go : (b : Bool) → signature a ≡ b → (r : Result) → Fits w (method a o m ts r) → Stands p at (putAtom (method a o m ts r) (word ")" rest)) →
+          Placed p (f (signatureFrom p at)) w (plus (method a o m ts r)) rest (cond b (resultAim r (g a o m ts)) misses)
+      go true d (value r) i s =
+          let v = either-stands p 8 9 (method a o m ts (value r)) (word ")" rest) (omega arith) (signature-kind a (rw d tt)) s in
+          rw (object-of p o m ts r (word ")" rest) v) (h a o m ts r _ i v)
+      go true d none i s = missed (ap f (object-none p o m ts (word ")" rest) (either-stands p 8 9 (method a o m ts none) (word ")" rest) (omega arith) (signature-kind a (rw d tt)) s)) ∙ e)
+      go false d r i s = missed (ap f (other-signature p (method a o m ts r) (word ")" rest) (kind-signature a d .0) (kind-signature a d .1) s) ∙ e)
+
+  -- The three places that are aimed at in a signature.
+  pub inh-placed : Aimed Inh
+  unfolding targetAt objectAt aim objectAim
+  inh-placed at k l rest =
+      positive-placed l rest (signatureFrom p) _ (past-signature p) (λ x at i s. method-placed x rest (λ o. o) objectAim refl (λ a o m ts r at i v. found _ _ v (object-hole w rest a o m ts r i)) i s)
+
+  pub out-placed : Aimed Out
+  unfolding targetAt objectAt aim outputAim putResult
+  out-placed at k l rest =
+      positive-placed l rest (λ at. resultAt p (signatureFrom p at)) _ (ap (resultAt p) (past-signature p) ∙ past-result p) (λ x at i s.
+      method-placed x rest (resultAt p) outputAim (past-result p) (λ a o m ts r at i v. found _ _ (result-stands p o m ts (value r) (word ")" rest) v) (result-hole w rest a o m ts r i)) i s)
+
+  argument-placed : {at : ℕ} (k : ℕ) (a : Arrow) (o m : Term) (ts : Terms) (r : Term) (rest : List ℕ) → Fits w (method a o m ts (value r)) →
+      Stands p at (putArguments ts (word " " (putResult (value r) (word ")" (word ")" rest))))) → Placed p (argumentAt p at k) w (plus (method a o m ts (value r))) rest (inputAim k a o m ts r)
+  unfolding argumentAt inputAim
+  argument-placed {at} k a o m ts r rest i s = go (argument-item ts k _) (argument-written k ts _ _)
+    where
+      behind : List ℕ
+      behind = word " " (putResult (value r) (word ")" (word ")" rest)))
+
+      aimed : Argument → Aim
+      aimed g = hits (record { term = g .term; with = λ σ u. plus (method a (fill σ o) (fill σ m) (g .with σ u) (value (fill σ r))) })
+
+      go : {q : Parsed (Unit {0})} {b : Aim} → toArgument k (putArguments ts behind) ≡ q → Written k ts (word ")" behind) aimed q b → Placed p (endOf p (toArgument k (drop at p))) w (plus (method a o m ts (value r))) rest b
+      go e absent = missed (walk-past p at (toArgument k) s e)
+      go e (present c) = found _ _ (walk-stands p at (argument-tail k) s e) (argument-hole w rest a o m ts r i c)
+
+  pub inp-placed : Aimed Inp
+  unfolding targetAt objectAt aim
+  inp-placed at k l rest =
       let f : ℕ → ℕ = λ o. argumentAt p (nextAt p (nextAt p o)) k in
-      let e : f (length p + 1) ≡ length p + 1 = ap (λ a. argumentAt p (nextAt p a) k) (past-next p) ∙ (ap (λ a. argumentAt p a k) (past-next p) ∙ past-argument k) in
-      positive-placed l rest (λ at. f (signatureFrom at)) _ (ap f past-signature ∙ e) (λ x at w.
-      method-placed x (word ")" rest) f (inputAim k) e (λ a o m ts r at v. argument-placed k ts _ _ (next-term p m (next-term p o v))) w) s
+      positive-placed l rest (λ at. f (signatureFrom p at)) _ (ap f (past-signature p) ∙ past-input p k) (λ x at i s.
+      method-placed x rest f (inputAim k) (past-input p k) (λ a o m ts r at i v. argument-placed k a o m ts r rest i (next-term p m (next-term p o v))) i s)

@@ -1,0 +1,90 @@
+-- The rule par in bytes says what the rule table says.
+use Prim.Native.Nat.{ℕ, _+_, _-_}
+use mathlib.Core.Bool.{true}
+use mathlib.Core.List.{List, [], _∷_}
+use mathlib.Core.Logic.{_⊎_, inl, inr}
+use mathlib.Core.Path.{_≡_, refl, sym, ap, subst, _∙_}
+use native.Mathlib.Omega.{arith}
+use lib.Dec.{eqb}
+use lib.ListN.{length, drop}
+use Rattle.logic.specs.declared.Link.the-variants.{Eq}
+use Rattle.logic.specs.declared.Rule.the-variants.{Par}
+use Rattle.logic.specs.declared.Judged.the-variants.{Misshapen}
+use Rattle.logic.specs.Syntax.{Term, Literal, lit}
+use Rattle.logic.specs.Each.{width}
+use Rattle.logic.specs.Fill.{Substitution, fill, fillLiteral}
+use Rattle.logic.specs.Occurrence.{Search}
+use Rattle.logic.specs.Rules.{equal, one}
+use Rattle.logic.specs.Judge.{concludes, onFound, conclude-par}
+use Rattle.reader.specs.Words.{bytes}
+use Rattle.reader.specs.Form.{formedLiteral}
+use Rattle.reader.specs.Read.{strip}
+use Rattle.reader.specs.Places.{endOf}
+use Rattle.reader.specs.Access.{beginsTerm, seek, toOccurrence}
+use Rattle.reader.proofs.Gives.{Gives, nothing, gives, weaken}
+use Rattle.reader.proofs.Positions.{Tail, End, end-refl, end-cons, strip-tail, and-tail}
+use Rattle.reader.proofs.Tests.{onTest}
+use Rattle.rules.specs.Filled.{replacing}
+use Rattle.rules.specs.Shapes.{nextAt, firstAt}
+use Rattle.rules.specs.Table.{parAt, rowAt}
+use Rattle.rules.specs.Conclusions.{parNewAt, newAt}
+use Rattle.rules.proofs.Holes.{stack}
+use Rattle.rules.proofs.Occurring.{Occurs, nowhere, somewhere, occurs}
+use Rattle.rules.proofs.Placing.{walk-stands, walk-past, none-past}
+use Rattle.rules.proofs.Targets.{past-second}
+use Rattle.rules.proofs.Rewrites.{TermAt, Linked, unlinked, linked, link-at, Rewritten, misses-term, misses-link, not-rewritten, filler-entry, side-new, filler-hole, rewritten}
+use Rattle.rules.proofs.Meets.{Images, LiteralAt, Meets}
+
+-- The way to an occurrence ends within the bytes.
+seek-tail : (k n : ℕ) → Tail (seek k n)
+unfolding seek
+seek-tail k n = record { tail = λ bs. go bs k n }
+  where
+    go : (bs : List ℕ) (k n : ℕ) → Gives (λ _ rest. End bs rest) (seek k n bs)
+    go [] k n = nothing
+    go (b ∷ bs) k n =
+        let on : (k n : ℕ) → Gives (λ _ rest. End (b ∷ bs) rest) (seek k n bs) = λ k n. weaken (go bs k n) (λ _ rest e. end-cons b e) in
+        onTest (Gives _) (eqb b 40)
+        (λ _. onTest (Gives _) (beginsTerm (b ∷ bs)) (λ _. onTest (Gives _) (eqb k 0) (λ _. gives (end-refl (b ∷ bs))) (λ _. on (k - 1) (n + 1))) (λ _. on k (n + 1)))
+        (λ _. onTest (Gives _) (eqb b 41) (λ _. onTest (Gives _) (eqb n 0) (λ _. nothing) (λ _. on k (n - 1))) (λ _. on k n))
+
+occurrence-tail : (k : ℕ) → Tail (toOccurrence k)
+unfolding toOccurrence
+occurrence-tail k = and-tail (strip-tail (bytes "(")) (seek-tail k 0)
+
+module _ (p line starts q others : List ℕ) (σ τ : Substitution) (v w : ℕ) (images : Images line starts σ v) (images′ : Images line others τ w) where
+  -- What the search finds, and the link.
+  searched : (i y k : ℕ) (l : Literal) (a : LiteralAt p i v l) (b c : Term) → TermAt q y w b → TermAt q (nextAt q y) w c → {s : Search Literal} →
+      Occurs (replacing line starts (length p - endOf p (toOccurrence k (drop i p))) q (nextAt q y) others) σ v 16 35 k l (a .rest) s →
+      Rewritten p i (endOf p (toOccurrence k (drop i p))) line starts q y true others (onFound s (λ s l′. concludes (equal (one s) (one (fill τ b))) (l′ ∷ [])))
+  unfolding onFound
+  searched i y k l a b c at-b at-c (nowhere j e) =
+      let x = endOf p (toOccurrence k (drop i p)) in
+      not-rewritten p i x line starts q y true others (misses-term p i x line starts q y true others (walk-past p i (toOccurrence k) (a .stands) e)) refl
+  searched i y k l a b c at-b at-c (somewhere {l′} t left e small o h) =
+      let stands = walk-stands p i (occurrence-tail k) (a .stands) o in
+      rw e (rewritten p line starts q others σ τ v w images images′ true t b c l l′ (a .rest) (record { rest = left; stands = stands; formed = small .0; narrow = small .1 }) at-b at-c (a .stands)
+      (h (filler-hole p line starts q others σ τ v w images images′ (nextAt q y) stands)))
+
+  by-eq : (i y k : ℕ) (l m : Literal) → LiteralAt p i v l → Linked q y Eq w m → Rewritten p i (endOf p (toOccurrence k (drop i p))) line starts q y true others (conclude-par σ k l (fillLiteral τ m))
+  unfolding conclude-par formedLiteral width stack
+  by-eq i y k l m a (unlinked e d) =
+      let x = endOf p (toOccurrence k (drop i p)) in
+      not-rewritten p i x line starts q y true others (misses-link p i x line starts q y true others e) (d τ _)
+  by-eq i y k (lit g z) m a (linked b c at-b at-c d) =
+      let x = endOf p (toOccurrence k (drop i p)) in
+      let f = replacing line starts (length p - x) q (nextAt q y) others in
+      subst (Rewritten p i x line starts q y true others) (sym (d τ _)) (searched i y k (lit g z) a b c at-b at-c
+      (occurs f σ v 16 16 (filler-entry p line starts q others σ τ v w images images′ x (nextAt q y)) (fill τ c) (side-new p line starts q others σ τ v w images images′ true x b c at-b at-c) g z (a .formed) (omega (arith, a .narrow)) k (a .rest)))
+
+  pub par-meets : (i j k : ℕ) (l m : Literal) → LiteralAt p i v l → LiteralAt q j w m → Meets Par k p i line starts q j others (conclude-par σ k l (fillLiteral τ m))
+  unfolding rowAt parAt newAt parNewAt
+  par-meets i j k l m a b = let r = by-eq i (firstAt q (bytes "(eq ") j) k l m a (link-at q w j Eq m b) in record { judged = r .judged; claimed = r .claimed }
+
+-- A literal that is missing is misshapen.
+pub par-past : (k : ℕ) (p : List ℕ) (i : ℕ) (line starts q : List ℕ) (j : ℕ) (others : List ℕ) → (i ≡ length p + 1) ⊎ (j ≡ length q + 1) → rowAt Par k p i line starts q j others ≡ Misshapen
+unfolding rowAt parAt toOccurrence strip
+par-past k p i line starts q j others (inl e) =
+    misses-term p i (endOf p (toOccurrence k (drop i p))) line starts q (firstAt q (bytes "(eq ") j) true others (ap (λ i. endOf p (toOccurrence k (drop i p))) e ∙ none-past p (toOccurrence k) refl)
+par-past k p i line starts q j others (inr e) =
+    misses-link p i (endOf p (toOccurrence k (drop i p))) line starts q (firstAt q (bytes "(eq ") j) true others (ap (λ j. nextAt q (firstAt q (bytes "(eq ") j)) e ∙ past-second q Eq)
