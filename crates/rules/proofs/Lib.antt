@@ -30,3 +30,4 @@ pub mod StepMeets
 pub mod RewriteExamples
 pub mod Rewrites
 pub mod ParMeets
+pub mod RuleMeets

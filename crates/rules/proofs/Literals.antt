@@ -1,5 +1,5 @@
 -- The literals of a parent: where they stand, and what the rule table takes of them.
-use Prim.Native.Nat.{ℕ, zero, suc, _+_, _≤_, _<_, max}
+use Prim.Native.Nat.{ℕ, zero, suc, _+_, _-_, _≤_, _<_, max}
 use mathlib.Core.Bool.{Bool, true, false, cond, true≢false}
 use mathlib.Core.List.{List, [], _∷_, map}
 use mathlib.Core.Path.{_≡_, refl, sym, ap, subst, _∙_}
@@ -7,7 +7,7 @@ use native.Mathlib.Omega.{arith}
 use native.Mathlib.Numerals.{add-one}
 use borrow.Author.Tests.{ne-eqb, eq-eqb}
 use lib.Dec.{T, eqb, eqb→eq}
-use lib.ListN.{length, drop, drop-of-length-le}
+use lib.ListN.{length, drop, length-drop, drop-of-length-le}
 use Rattle.logic.specs.Syntax.{Literal, lit, Clause}
 use Rattle.logic.specs.Each.{width}
 use Rattle.logic.specs.Fill.{Substitution, fillLiteral, fillClause}
@@ -182,9 +182,26 @@ unfoldable followed : ℕ → Parsed (Unit {0}) → ℕ
 followed most bad = 0
 followed most (got u rest) = howMany most rest
 
-following : {p : List ℕ} {c : Clause} → PartOf p c → (n : ℕ) {l : Literal} {cs : Clause} → drop n c ≡ l ∷ cs → followed (length cs) (skipItem (drop (placeAt p n) p)) ≡ length cs
+following : {p : List ℕ} {c : Clause} → PartOf p c → (n most : ℕ) {l : Literal} {cs : Clause} → drop n c ≡ l ∷ cs → length cs ≤ most → followed most (skipItem (drop (placeAt p n) p)) ≡ length cs
 unfolding followed
-following (unused e) n d = absurd (none-there n d)
-following {p} (begins {c} rest e f) n {l} {cs} d =
+following (unused e) n most d h = absurd (none-there n d)
+following {p} (begins {c} rest e f) n most {l} {cs} d h =
     let w = item-stands c rest e n d in
-    rw (w .bytes-there, skip-literal l (putEach putLiteral cs (word ")" rest))) (how-many putLiteral skip-literal cs (length cs) rest (omega arith))
+    rw (w .bytes-there, skip-literal l (putEach putLiteral cs (word ")" rest))) (how-many putLiteral skip-literal cs most rest h)
+
+pub same-place : {p : List ℕ} {c : Clause} → PartOf p c → (i j : ℕ) {l m : Literal} {cs ds : Clause} → drop i c ≡ l ∷ cs → drop j c ≡ m ∷ ds → eqb i j ≡ eqb (placeAt p i) (placeAt p j)
+same-place {p} {c} P i j {l} {m} {cs} {ds} d e = go (eqb i j) refl
+  where
+    -- as many literals follow the one as the other
+    one-place : placeAt p i ≡ placeAt p j → i ≡ j
+    one-place h =
+        let a : length (drop i c) ≡ length c - i = length-drop i c in
+        let b : length (drop j c) ≡ length c - j = length-drop j c in
+        let f : length (drop i c) ≡ suc (length cs) = ap length d in
+        let g : length (drop j c) ≡ suc (length ds) = ap length e in
+        let s : length cs ≡ length ds = sym (following P i (length c) d (omega arith)) ∙ (ap (λ z. followed (length c) (skipItem (drop z p))) h ∙ following P j (length c) e (omega arith)) in
+        omega arith
+
+    go : (b : Bool) → eqb i j ≡ b → b ≡ eqb (placeAt p i) (placeAt p j)
+    go true h = sym (eq-eqb _ _ (ap (placeAt p) (eqb→eq i j (rw h tt))))
+    go false h = sym (ne-eqb _ _ (λ q. true≢false (sym (eq-eqb i j (one-place q)) ∙ h)))

@@ -31,11 +31,11 @@ use Rattle.rules.proofs.Literals.{PartOf, without, at-here, at-none, at
 use Rattle.rules.proofs.Concluded.{ClaimAt, Expects, concluded}
 
 -- The literal at a position, or none.
-data Taken (n : ℕ) (c : Clause) : Type 0 where
+pub data Taken (n : ℕ) (c : Clause) : Type 0 where
   taken : (l : Literal) (cs : Clause) → drop n c ≡ l ∷ cs → Taken n c
   absent : drop n c ≡ [] → Taken n c
 
-take-at : (n : ℕ) (c : Clause) → Taken n c
+pub take-at : (n : ℕ) (c : Clause) → Taken n c
 take-at n c = go (drop n c) refl
   where
     go : (ls : Clause) → drop n c ≡ ls → Taken n c
@@ -56,11 +56,11 @@ module _ (A B : Parent) {p line starts q others : List ℕ} (P : PartOf p (A .cl
     (G : Images line starts (A .image) (width (A .clause))) (H : Images line others (B .image) (width (B .clause)))
     {pos : ℕ} {claim : Clause} (at : ClaimAt line pos claim)
     (over : Over formedNumber formedSymbol (filled A)) (over′ : Over formedNumber formedSymbol (filled B)) (image : T (eachTerm formedNumber formedSymbol (A .image 0))) where
-  given-over : (i j k : ℕ) (rule : Rule) {g : Agreement} {c : Clause} → conclude A B i j k rule ≡ concludes g c → Over formedNumber formedSymbol c
+  pub given-over : (i j k : ℕ) (rule : Rule) {g : Agreement} {c : Clause} → conclude A B i j k rule ≡ concludes g c → Over formedNumber formedSymbol c
   given-over i j k rule e = infers-over formedNumber formedSymbol A B (concludes→infers A B i j k rule e) over over′ image
 
   -- A shape that is another: check 9 answers.
-  stops : (r : Judged) (c : Conclusion) (b : Bool) → r ≡ Misshapen → c ≡ misshapen → thenClaim r b ≡ judgeConclusion c claim
+  pub stops : (r : Judged) (c : Conclusion) (b : Bool) → r ≡ Misshapen → c ≡ misshapen → thenClaim r b ≡ judgeConclusion c claim
   unfolding thenClaim judgeConclusion
   stops r c b e f = rw (e, f)
 
