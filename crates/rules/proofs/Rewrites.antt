@@ -15,7 +15,6 @@ use Rattle.logic.specs.Syntax.{Term, Literal, Clause}
 use Rattle.logic.specs.Fill.{Substitution, fill, fillLiteral}
 use Rattle.logic.specs.Rules.{Agreement, equal, Holds, one}
 use Rattle.logic.specs.Judge.{Conclusion, misshapen, concludes, tableRow}
-use Rattle.logic.proofs.Both.{left}
 use Rattle.logic.proofs.Rewriting.{Aim, aim, agreeing, replacing as other-side, rewrite, tra-rewrites, inc-rewrites, inh-rewrites, inp-rewrites, out-rewrites}
 use Rattle.reader.specs.Words.{bytes}
 use Rattle.reader.specs.Write.{putTerm, putLiteral, putLiterals}
