@@ -83,7 +83,7 @@ spaced-literal line l pos b x =
     ∙ (strip-chain line (32 ∷ putLiteral l []) b x pos
     ∙ ap (stripAt line (b ∷ x)) (ap (λ ws. stripAt line (32 ∷ ws) pos) (o .1) ∙ (strip-chain line (32 ∷ []) 40 (o .0) pos ∙ ap (λ ws. stripAt line ws (stripAt line (32 ∷ []) pos)) (sym (o .1)))))
 
-literals-open : (c : Clause) (b : ℕ) (x : List ℕ) → (d : ℕ) × (y : List ℕ) × (putLiterals c (b ∷ x) ≡ d ∷ y)
+pub literals-open : (c : Clause) (b : ℕ) (x : List ℕ) → (d : ℕ) × (y : List ℕ) × (putLiterals c (b ∷ x) ≡ d ∷ y)
 unfolding putLiterals
 literals-open [] b x = (b, x, refl)
 literals-open (l ∷ c) b x = (_, _, refl)

@@ -27,3 +27,6 @@ pub mod RowExamples
 pub mod RewriteExamples
 pub mod Rewrites
 pub mod ParMeets
+pub mod Literals
+pub mod Concluded
+pub mod StepMeets

@@ -1,0 +1,118 @@
+-- Check 11: the claim that is expected in the line is the rule's, and then the answer is that of the definitions.
+use Prim.Native.Nat.{ℕ, zero, suc, _+_, _-_, _≤_, _<_}
+use mathlib.Core.Bool.{Bool, true, false, cond}
+use mathlib.Core.List.{List, [], _∷_, _++_, append-nil}
+use mathlib.Core.Logic.{ite, _↔_}
+use mathlib.Core.Path.{_≡_, refl, sym, ap, subst, _∙_}
+use native.Mathlib.Omega.{arith}
+use borrow.Author.Tests.{ne-eqb, eq-eqb}
+use lib.Dec.{T, eqb, eqb→eq}
+use lib.ListN.{length, drop, length-drop}
+use Rattle.logic.specs.declared.Judged.{Judged}
+use Rattle.logic.specs.declared.Judged.the-variants.{Passed, NoParent, WrongNumber, Misshapen, Disagrees, WrongClaim}
+use Rattle.logic.specs.declared.Rule.{Rule}
+use Rattle.logic.specs.Syntax.{Clause}
+use Rattle.logic.specs.Equality.{clause?}
+use Rattle.logic.specs.Rules.{uses, Agreement, Holds}
+use Rattle.logic.specs.Judge.{Conclusion, misshapen, concludes, holds?, judgeConclusion}
+use Rattle.logic.proofs.Over.{Over}
+use Rattle.reader.specs.Words.{bytes}
+use Rattle.reader.specs.Write.{word, putLiteral, putLiterals, putClause}
+use Rattle.reader.specs.Form.{formedNumber}
+use Rattle.reader.specs.Read.{Parsed, bad, got, strip}
+use Rattle.reader.specs.Places.{endOf}
+use Rattle.reader.specs.LineAt.{fromClause}
+use Rattle.reader.proofs.Deep.{formedSymbol, clause-bytes}
+use Rattle.reader.proofs.Gives.{Gives, nothing, gives, given, strip-gives}
+use Rattle.reader.proofs.Heads.{strip-same}
+use Rattle.rules.specs.Shapes.{stripAt}
+use Rattle.rules.specs.Claims.{othersAt}
+use Rattle.rules.specs.Table.{rowAt}
+use Rattle.rules.specs.Conclusions.{newAt, droppedAt, claimAt}
+use Rattle.rules.specs.Judging.{thenClaim}
+use Rattle.rules.proofs.Placing.{Stands}
+use Rattle.rules.proofs.Claimed.{strip-chain, literals-open}
+use Rattle.rules.proofs.Answered.{judgedOf}
+
+-- A clause stands at the end of the line, before its last bracket.
+pub record ClaimAt (line : List ℕ) (pos : ℕ) (claim : Clause) : Type 0 where
+  pub stands : Stands line pos (fromClause claim)
+  pub over : Over formedNumber formedSymbol claim
+
+-- Bytes are expected up to the end of the line exactly if they are those that stand there.
+no-rest : (ws rest : List ℕ) → length rest ≡ 0 → ws ++ rest ≡ ws
+no-rest ws [] e = append-nil ws
+no-rest ws (b ∷ rest) e = absurd (omega arith)
+
+ends-only : (line ws bs : List ℕ) → 0 < length line → endOf line (strip ws bs) ≡ length line → bs ≡ ws
+unfolding endOf
+ends-only line ws bs n h = go (strip-gives ws bs) h
+  where
+    go : {q : Parsed (Unit {0})} → Gives (λ _ rest. bs ≡ ws ++ rest) q → endOf line q ≡ length line → bs ≡ ws
+    go nothing h = absurd (omega arith)
+    go (gives {rest} e) h = e ∙ no-rest ws rest (omega arith)
+
+ends-there : (line ws bs : List ℕ) → bs ≡ ws → endOf line (strip ws bs) ≡ length line
+unfolding endOf
+ends-there line ws bs e = rw (e, ap (strip ws) (sym (append-nil ws)) ∙ strip-same ws []) (omega arith)
+
+module _ {line : List ℕ} {pos : ℕ} {claim : Clause} (at : ClaimAt line pos claim) (c : Clause) (over : Over formedNumber formedSymbol c) where
+  claim-only : stripAt line (putClause c (word ")" [])) pos ≡ length line → c ≡ claim
+  unfolding stripAt fromClause putClause
+  claim-only h =
+      let e : drop pos line ≡ putClause claim (word ")" []) = at .stands .bytes-there in
+      let n : length (drop pos line) ≡ length line - pos = length-drop pos line in
+      let k : length (drop pos line) ≡ suc _ = ap length e in
+      clause-bytes c claim (word ")" []) (word ")" []) over (at .over) (sym (ends-only line (putClause c (word ")" [])) (drop pos line) (omega arith) h) ∙ e) .0
+
+  claim-there : c ≡ claim → stripAt line (putClause c (word ")" [])) pos ≡ length line
+  unfolding stripAt fromClause
+  claim-there h = ends-there line (putClause c (word ")" [])) (drop pos line) (at .stands .bytes-there ∙ ap (λ d. putClause d (word ")" [])) (sym h))
+
+  pub claim-exactly : cond (eqb (stripAt line (putClause c (word ")" [])) pos) (length line)) Passed WrongClaim ≡ ite (clause? c claim) Passed WrongClaim
+  claim-exactly = go (clause? c claim)
+    where
+      go : (d : Dec (c ≡ claim)) → cond (eqb (stripAt line (putClause c (word ")" [])) pos) (length line)) Passed WrongClaim ≡ ite d Passed WrongClaim
+      go (yes e) = rw (eq-eqb _ _ (claim-there e))
+      go (no e) = rw (ne-eqb _ _ (λ h. e (claim-only h)))
+
+literals-append : (c d : Clause) (rest : List ℕ) → putLiterals (c ++ d) rest ≡ putLiterals c (putLiterals d rest)
+unfolding putLiterals
+literals-append [] d rest = refl
+literals-append (l ∷ c) d rest = ap (λ x. word " " (putLiteral l x)) (literals-append c d rest)
+
+-- What literals a walk over the line expects.
+abbrev pub Expects : List ℕ → Clause → (ℕ → ℕ) → Type 0
+Expects line c walk = (pos b : ℕ) (x : List ℕ) → stripAt line (putLiterals c (b ∷ x)) pos ≡ stripAt line (b ∷ x) (walk pos)
+
+module _ (rule : Rule) (k : ℕ) (p : List ℕ) (n i x : ℕ) (line starts q : List ℕ) (m j y : ℕ) (others : List ℕ) (new a b : Clause)
+    (news : Expects line new (newAt rule k p x line starts q y others))
+    (firsts : Expects line a (othersAt p n (droppedAt (uses rule .b) p x i j) line starts))
+    (seconds : Expects line b (othersAt q m j line others)) where
+  claim-chain : (pos : ℕ) → stripAt line (putClause (new ++ (a ++ b)) (word ")" [])) pos ≡ claimAt rule k p n i x line starts q m j y others pos
+  unfolding putClause claimAt
+  claim-chain pos =
+      let o₃ = literals-open b 41 (41 ∷ []) in
+      let o₂ = literals-open a (o₃ .0) (o₃ .1) in
+      let o₁ = literals-open new (o₂ .0) (o₂ .1) in
+      let begin = stripAt line (bytes "(or") pos in
+      let first = newAt rule k p x line starts q y others begin in
+      let second = othersAt p n (droppedAt (uses rule .b) p x i j) line starts first in
+      ap (λ z. stripAt line (bytes "(or" ++ z) pos) (literals-append new (a ++ b) (41 ∷ 41 ∷ []) ∙ ap (putLiterals new) (literals-append a b (41 ∷ 41 ∷ []) ∙ (ap (putLiterals a) (o₃ .2) ∙ o₂ .2)) ∙ o₁ .2)
+      ∙ (strip-chain line (bytes "(or") (o₁ .0) (o₁ .1) pos
+      ∙ (ap (λ z. stripAt line z begin) (sym (o₁ .2))
+      ∙ (news begin (o₂ .0) (o₂ .1)
+      ∙ (ap (λ z. stripAt line z first) (sym (o₂ .2))
+      ∙ (firsts first (o₃ .0) (o₃ .1)
+      ∙ (ap (λ z. stripAt line z second) (sym (o₃ .2)) ∙ seconds second 41 (41 ∷ [])))))))
+
+  -- Checks 9 and 10 as the table says, and the claim: then the answer is that of the conclusion.
+  pub concluded : (g : Agreement) {pos : ℕ} {claim : Clause} → rowAt rule k p x line starts q y others ≡ judgedOf (concludes g new) →
+      ClaimAt line pos claim → Over formedNumber formedSymbol (new ++ (a ++ b)) →
+      thenClaim (rowAt rule k p x line starts q y others) (eqb (claimAt rule k p n i x line starts q m j y others pos) (length line)) ≡ judgeConclusion (concludes g (new ++ (a ++ b))) claim
+  unfolding judgedOf judgeConclusion thenClaim
+  concluded g {pos} {claim} row at over = rw (row, ← claim-chain pos) (go (holds? g) _ _ (claim-exactly at (new ++ (a ++ b)) over))
+    where
+      go : (d : Dec (Holds g)) (v : Judged) (t : Bool) → cond t Passed WrongClaim ≡ v → thenClaim (ite d Passed Disagrees) t ≡ ite d v Disagrees
+      go (yes h) v t e = e
+      go (no h) v t e = refl

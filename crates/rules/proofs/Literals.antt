@@ -1,0 +1,190 @@
+-- The literals of a parent: where they stand, and what the rule table takes of them.
+use Prim.Native.Nat.{ℕ, zero, suc, _+_, _≤_, _<_, max}
+use mathlib.Core.Bool.{Bool, true, false, cond, true≢false}
+use mathlib.Core.List.{List, [], _∷_, map}
+use mathlib.Core.Path.{_≡_, refl, sym, ap, subst, _∙_}
+use native.Mathlib.Omega.{arith}
+use native.Mathlib.Numerals.{add-one}
+use borrow.Author.Tests.{ne-eqb, eq-eqb}
+use lib.Dec.{T, eqb, eqb→eq}
+use lib.ListN.{length, drop, drop-of-length-le}
+use Rattle.logic.specs.Syntax.{Literal, lit, Clause}
+use Rattle.logic.specs.Each.{width}
+use Rattle.logic.specs.Fill.{Substitution, fillLiteral, fillClause}
+use Rattle.logic.specs.Judge.{Conclusion, misshapen, onAt}
+use Rattle.logic.proofs.Both.{left, right}
+use Rattle.reader.specs.Words.{bytes}
+use Rattle.reader.specs.Write.{word, putLiteral, putLiterals, putClause}
+use Rattle.reader.specs.Form.{formedLiteral, formedClause}
+use Rattle.reader.specs.Read.{Parsed, bad, got, readClause, after, strip}
+use Rattle.reader.specs.Access.{toItem, passItem, skipItem, howMany}
+use Rattle.reader.specs.Summary.{clauseMeasure}
+use Rattle.reader.proofs.Complete.{clause-complete}
+use Rattle.reader.proofs.Heads.{strip-same}
+use Rattle.reader.proofs.Nesting.{putEach, fromItem, clause-item, skip-literal, how-many}
+use Rattle.reader.proofs.Positions.{item-tail}
+use Rattle.reader.specs.Places.{endOf}
+use Rattle.rules.specs.Shapes.{stripAt}
+use Rattle.rules.specs.Claims.{othersFrom, othersAt}
+use Rattle.rules.specs.Conclusions.{placeAt}
+use Rattle.rules.specs.Judging.{measureAt}
+use Rattle.rules.proofs.Placing.{Stands, walk-stands, walk-past, none-past, strip-stands}
+use Rattle.rules.proofs.Claimed.{withoutFrom, others-claimed}
+use Rattle.rules.proofs.Meets.{Images, LiteralAt}
+
+-- A part of the text that begins with a clause, formed; an unused parent is no bytes and has no literal.
+pub data PartOf (p : List ℕ) : Clause → Type 0 where
+  unused : p ≡ [] → PartOf p []
+  begins : {c : Clause} (rest : List ℕ) → p ≡ putClause c rest → T (formedClause 16 c) → PartOf p c
+
+-- Without literal n: what "the other literals" are.
+abbrev pub without : ℕ → Clause → Clause
+without n c = withoutFrom 0 n c
+
+-- Counting from one further on is the same.
+eqb-suc : (n d : ℕ) → eqb (suc n) (suc d) ≡ eqb n d
+eqb-suc n d = go (eqb n d) refl
+  where
+    go : (b : Bool) → eqb n d ≡ b → eqb (suc n) (suc d) ≡ b
+    go true e = eq-eqb (suc n) (suc d) (ap suc (eqb→eq n d (rw e tt)))
+    go false e = ne-eqb (suc n) (suc d) (λ h. true≢false (sym (eq-eqb n d (omega arith)) ∙ e))
+
+without-shift : (n d : ℕ) (c : Clause) → withoutFrom (suc n) (suc d) c ≡ withoutFrom n d c
+unfolding withoutFrom
+without-shift n d [] = refl
+without-shift n d (l ∷ c) =
+    let e : suc n + 1 ≡ suc (n + 1) = omega arith in
+    rw (e, eqb-suc n d, without-shift (n + 1) d c)
+
+without-past : (n : ℕ) (c : Clause) → withoutFrom (suc n) 0 c ≡ c
+unfolding withoutFrom
+without-past n [] = refl
+without-past n (l ∷ c) =
+    let e : suc n + 1 ≡ suc (n + 1) = omega arith in
+    rw (ne-eqb (suc n) 0 (omega arith), e, without-past (n + 1) c)
+
+-- What the rule table takes at a position: the literal there and the others, or nothing.
+pub at-here : (i : ℕ) (c : Clause) (f : Literal → Clause → Conclusion) {l : Literal} {cs : Clause} → drop i c ≡ l ∷ cs → onAt i c f ≡ f l (without i c)
+unfolding onAt withoutFrom
+at-here zero [] f e = cc
+at-here (suc i) [] f e = cc
+at-here zero (m ∷ c) f e = rw (without-past 0 c) (ap (λ x. f (firstOr m x) c) e)
+  where
+    firstOr : Literal → Clause → Literal
+    firstOr d [] = d
+    firstOr d (k ∷ ks) = k
+at-here (suc i) (m ∷ c) f e = rw (ne-eqb 0 (suc i) (omega arith), without-shift 0 i c) (at-here i c (λ l r. f l (m ∷ r)) e)
+
+pub at-none : (i : ℕ) (c : Clause) (f : Literal → Clause → Conclusion) → drop i c ≡ [] → onAt i c f ≡ misshapen
+unfolding onAt
+at-none zero [] f e = refl
+at-none (suc i) [] f e = refl
+at-none zero (m ∷ c) f e = cc
+at-none (suc i) (m ∷ c) f e = at-none i c (λ l r. f l (m ∷ r)) e
+
+-- The same in a clause that is filled.
+drop-filled : (σ : Substitution) (i : ℕ) (c : Clause) → drop i (fillClause σ c) ≡ fillClause σ (drop i c)
+unfolding fillClause
+drop-filled σ zero c = refl
+drop-filled σ (suc i) [] = refl
+drop-filled σ (suc i) (l ∷ c) = drop-filled σ i c
+
+without-filled : (σ : Substitution) (n d : ℕ) (c : Clause) → withoutFrom n d (fillClause σ c) ≡ fillClause σ (withoutFrom n d c)
+unfolding fillClause withoutFrom
+without-filled σ n d [] = refl
+without-filled σ n d (l ∷ c) = go (eqb n d) (without-filled σ (n + 1) d c)
+  where
+    go : (b : Bool) → withoutFrom (n + 1) d (fillClause σ c) ≡ fillClause σ (withoutFrom (n + 1) d c) → cond b (withoutFrom (n + 1) d (fillClause σ c)) (fillLiteral σ l ∷ withoutFrom (n + 1) d (fillClause σ c)) ≡ fillClause σ (cond b (withoutFrom (n + 1) d c) (l ∷ withoutFrom (n + 1) d c))
+    go true h = h
+    go false h = ap (λ x. fillLiteral σ l ∷ x) h
+
+pub at-filled : (σ : Substitution) (i : ℕ) (c : Clause) (f : Literal → Clause → Conclusion) {l : Literal} {cs : Clause} → drop i c ≡ l ∷ cs → onAt i (fillClause σ c) f ≡ f (fillLiteral σ l) (fillClause σ (without i c))
+unfolding fillClause
+at-filled σ i c f {l} e = at-here i (fillClause σ c) f (drop-filled σ i c ∙ ap (fillClause σ) e) ∙ ap (f (fillLiteral σ l)) (without-filled σ 0 i c)
+
+pub at-none-filled : (σ : Substitution) (i : ℕ) (c : Clause) (f : Literal → Clause → Conclusion) → drop i c ≡ [] → onAt i (fillClause σ c) f ≡ misshapen
+unfolding fillClause
+at-none-filled σ i c f e = at-none i (fillClause σ c) f (drop-filled σ i c ∙ ap (fillClause σ) e)
+
+-- Each literal is formed and no wider than the clause.
+unfoldable FirstFits : ℕ → Clause → Type 0
+FirstFits w [] = Unit
+FirstFits w (l ∷ c) = T (formedLiteral 16 l) × (width (l ∷ []) ≤ w)
+
+each-fits : (w n : ℕ) (c : Clause) → T (formedClause 16 c) → width c ≤ w → FirstFits w (drop n c)
+unfolding FirstFits formedClause width
+each-fits w zero [] f h = tt
+each-fits w (suc n) [] f h = tt
+each-fits w zero (lit g x ∷ c) f h = (left (formedLiteral 16 (lit g x)) (formedClause 16 c) f, omega arith)
+each-fits w (suc n) (lit g x ∷ c) f h = each-fits w n c (right (formedLiteral 16 (lit g x)) (formedClause 16 c) f) (omega arith)
+
+literal-fits : (n : ℕ) (c : Clause) {l : Literal} {cs : Clause} → drop n c ≡ l ∷ cs → T (formedClause 16 c) → T (formedLiteral 16 l) × (width (l ∷ []) ≤ width c)
+unfolding FirstFits
+literal-fits n c e f = subst (FirstFits (width c)) e (each-fits (width c) n c f (omega arith))
+
+-- No literal stands in no bytes.
+none-there : (n : ℕ) {l : Literal} {cs : Clause} → drop n [] ≡ l ∷ cs → ⊥
+none-there zero e = omega (arith, ap length e)
+none-there (suc n) e = omega (arith, ap length e)
+
+no-item : (n : ℕ) → toItem n [] ≡ bad
+unfolding toItem passItem strip
+no-item zero = refl
+no-item (suc n) = refl
+
+nothing-past : (n : ℕ) → placeAt [] n ≡ 1
+unfolding placeAt endOf
+nothing-past n = rw (drop-of-length-le {A = ℕ} [] {i = stripAt [] (bytes "(or") 0} (omega arith), no-item n)
+
+-- The literals of a clause, from the place behind "(or".
+module _ {p : List ℕ} where
+  literals-stand : (c : Clause) (rest : List ℕ) → p ≡ putClause c rest → Stands p (stripAt p (bytes "(or") 0) (putLiterals c (word ")" rest))
+  unfolding putClause
+  literals-stand c rest e = strip-stands p (bytes "(or") {at = 0} (record { within = omega arith; bytes-there = e }) (strip-same (bytes "(or") (putLiterals c (word ")" rest)))
+
+  item-stands : (c : Clause) (rest : List ℕ) → p ≡ putClause c rest → (n : ℕ) {l : Literal} {cs : Clause} → drop n c ≡ l ∷ cs → Stands p (placeAt p n) (putLiteral l (putEach putLiteral cs (word ")" rest)))
+  unfolding placeAt fromItem
+  item-stands c rest e n d = walk-stands p (stripAt p (bytes "(or") 0) (item-tail n) (literals-stand c rest e) (clause-item c n rest ∙ ap (λ ls. fromItem putLiteral ls (word ")" rest)) d)
+
+  -- The place of literal n.
+  pub place-here : {c : Clause} → PartOf p c → (n : ℕ) {l : Literal} {cs : Clause} → drop n c ≡ l ∷ cs → LiteralAt p (placeAt p n) (width c) l
+  place-here (unused e) n d = absurd (none-there n d)
+  place-here (begins {c} rest e f) n {l} {cs} d =
+      let w = literal-fits n c d f in
+      record {
+        rest = putEach putLiteral cs (word ")" rest);
+        stands = item-stands c rest e n d;
+        formed = w .0;
+        narrow = w .1;
+      }
+
+  pub place-past : {c : Clause} → PartOf p c → (n : ℕ) → drop n c ≡ [] → placeAt p n ≡ length p + 1
+  unfolding placeAt fromItem
+  place-past (unused e) n d = rw e (nothing-past n)
+  place-past (begins {c} rest e f) n d = walk-past p (stripAt p (bytes "(or") 0) (toItem n) (literals-stand c rest e) (clause-item c n rest ∙ ap (λ ls. fromItem putLiteral ls (word ")" rest)) d)
+
+  -- Its measure.
+  pub part-measure : {c : Clause} → PartOf p c → (measureAt p .width ≡ width c) × (measureAt p .count ≡ length c)
+  unfolding measureAt readClause strip clauseMeasure width
+  part-measure (unused e) = rw e (refl, refl)
+  part-measure (begins {c} rest e f) = rw (e, clause-complete 16 c f rest) (refl, refl)
+
+  -- All its literals but one, expected in the line.
+  pub part-others : {c : Clause} → PartOf p c → {line starts : List ℕ} {σ : Substitution} → Images line starts σ (width c) → (dropped pos b : ℕ) (x : List ℕ) →
+      stripAt line (putLiterals (fillClause σ (without dropped c)) (b ∷ x)) pos ≡ stripAt line (b ∷ x) (othersAt p (length c) dropped line starts pos)
+  unfolding othersAt othersFrom fillClause withoutFrom putLiterals
+  part-others (unused e) g dropped pos b x = refl
+  part-others (begins {c} rest e f) {line} {starts} {σ} g dropped pos b x =
+      others-claimed p line starts σ (width c) (g .entry) dropped 0 c rest pos b x (literals-stand c rest e) f (omega arith)
+
+-- Two literals stand at one place exactly if they are one literal: so many literals follow.
+unfoldable followed : ℕ → Parsed (Unit {0}) → ℕ
+followed most bad = 0
+followed most (got u rest) = howMany most rest
+
+following : {p : List ℕ} {c : Clause} → PartOf p c → (n : ℕ) {l : Literal} {cs : Clause} → drop n c ≡ l ∷ cs → followed (length cs) (skipItem (drop (placeAt p n) p)) ≡ length cs
+unfolding followed
+following (unused e) n d = absurd (none-there n d)
+following {p} (begins {c} rest e f) n {l} {cs} d =
+    let w = item-stands c rest e n d in
+    rw (w .bytes-there, skip-literal l (putEach putLiteral cs (word ")" rest))) (how-many putLiteral skip-literal cs (length cs) rest (omega arith))

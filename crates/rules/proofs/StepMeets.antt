@@ -1,0 +1,91 @@
+-- Checks 9 to 11 in bytes are those of the definitions, for parents that begin with their clauses and lists that give the images.
+use Prim.Native.Nat.{ℕ, zero, suc, _+_, _≤_, _<_}
+use mathlib.Core.Bool.{Bool, true, false, cond}
+use mathlib.Core.List.{List, [], _∷_, _++_, append-nil}
+use mathlib.Core.Logic.{_⊎_, inl, inr, ite}
+use mathlib.Core.Path.{_≡_, refl, sym, ap, subst, _∙_}
+use native.Mathlib.Omega.{arith}
+use lib.Dec.{T, eqb}
+use lib.ListN.{length, drop}
+use Rattle.logic.specs.declared.Sign.the-variants.{Positive, Negative}
+use Rattle.logic.specs.declared.Rule.{Rule}
+use Rattle.logic.specs.declared.Rule.the-variants.{Refl, Res, Fac, Par, Acy, Tra, Inc, Inh, Inp, Out, Sca, Eli}
+use Rattle.logic.specs.declared.Judged.{Judged}
+use Rattle.logic.specs.declared.Judged.the-variants.{Passed, Misshapen, Disagrees, WrongClaim}
+use Rattle.logic.specs.Syntax.{Term, Atom, link, obj, method, Literal, lit, Clause}
+use Rattle.logic.specs.Each.{width, eachTerm}
+use Rattle.logic.specs.Fill.{Substitution, fillAtom, fillLiteral, fillClause}
+use Rattle.logic.specs.Rules.{uses, Agreement, Parent, filled}
+use Rattle.logic.specs.Judge.{Conclusion, misshapen, concludes, onAt, onPlus, onMinus, onObj, before, tableRow, two, conclude-par, conclude-fac, conclude-eli, conclude, judgeConclusion}
+use Rattle.logic.proofs.Over.{Over, infers-over}
+use Rattle.logic.proofs.Table.{concludes→infers}
+use Rattle.reader.specs.Form.{formedNumber}
+use Rattle.reader.proofs.Deep.{formedSymbol}
+use Rattle.rules.specs.Claims.{othersAt}
+use Rattle.rules.specs.Table.{rowAt}
+use Rattle.rules.specs.Conclusions.{newAt, placeAt, secondAt, droppedAt, claimAt}
+use Rattle.rules.specs.Judging.{thenClaim, concludeAt}
+use Rattle.rules.proofs.Answered.{judgedOf}
+use Rattle.rules.proofs.Meets.{Images, LiteralAt, Meets}
+use Rattle.rules.proofs.Literals.{PartOf, without, at-here, at-none, at-filled, at-none-filled, place-here, place-past, part-others}
+use Rattle.rules.proofs.Concluded.{ClaimAt, Expects, concluded}
+
+-- The literal at a position, or none.
+data Taken (n : ℕ) (c : Clause) : Type 0 where
+  taken : (l : Literal) (cs : Clause) → drop n c ≡ l ∷ cs → Taken n c
+  absent : drop n c ≡ [] → Taken n c
+
+take-at : (n : ℕ) (c : Clause) → Taken n c
+take-at n c = go (drop n c) refl
+  where
+    go : (ls : Clause) → drop n c ≡ ls → Taken n c
+    go [] e = absent e
+    go (l ∷ ls) e = taken l ls e
+
+-- A rule with two parents: what it takes of the literals, and that its row in bytes meets that.
+pub record TwoParents (rule : Rule) (k : ℕ) (A B : Parent) (i j : ℕ) (p line starts q others : List ℕ) : Type 0 where
+  pub with-b : uses rule .b ≡ true
+  pub row : Literal → Literal → Conclusion
+  pub gives : {l m : Literal} {cs ds : Clause} → drop i (A .clause) ≡ l ∷ cs → drop j (B .clause) ≡ m ∷ ds →
+      conclude A B i j k rule ≡ before (row l m) (fillClause (A .image) (without i (A .clause)) ++ fillClause (B .image) (without j (B .clause)))
+  pub lacks : (drop i (A .clause) ≡ []) ⊎ (drop j (B .clause) ≡ []) → conclude A B i j k rule ≡ misshapen
+  pub meets : (x y : ℕ) (l m : Literal) → LiteralAt p x (width (A .clause)) l → LiteralAt q y (width (B .clause)) m → Meets rule k p x line starts q y others (row l m)
+  pub past : (x y : ℕ) → (x ≡ length p + 1) ⊎ (y ≡ length q + 1) → rowAt rule k p x line starts q y others ≡ Misshapen
+
+module _ (A B : Parent) {p line starts q others : List ℕ} (P : PartOf p (A .clause)) (Q : PartOf q (B .clause))
+    (G : Images line starts (A .image) (width (A .clause))) (H : Images line others (B .image) (width (B .clause)))
+    {pos : ℕ} {claim : Clause} (at : ClaimAt line pos claim)
+    (over : Over formedNumber formedSymbol (filled A)) (over′ : Over formedNumber formedSymbol (filled B)) (image : T (eachTerm formedNumber formedSymbol (A .image 0))) where
+  given-over : (i j k : ℕ) (rule : Rule) {g : Agreement} {c : Clause} → conclude A B i j k rule ≡ concludes g c → Over formedNumber formedSymbol c
+  given-over i j k rule e = infers-over formedNumber formedSymbol A B (concludes→infers A B i j k rule e) over over′ image
+
+  -- A shape that is another: check 9 answers.
+  stops : (r : Judged) (c : Conclusion) (b : Bool) → r ≡ Misshapen → c ≡ misshapen → thenClaim r b ≡ judgeConclusion c claim
+  unfolding thenClaim judgeConclusion
+  stops r c b e f = rw (e, f)
+
+  module _ {rule : Rule} {k i j : ℕ} (R : TwoParents rule k A B i j p line starts q others) where
+    both-taken : {l m : Literal} {cs ds : Clause} → drop i (A .clause) ≡ l ∷ cs → drop j (B .clause) ≡ m ∷ ds → (c : Conclusion) → R .row l m ≡ c →
+        thenClaim (rowAt rule k p (placeAt p i) line starts q (placeAt q j) others) (eqb (claimAt rule k p (length (A .clause)) i (placeAt p i) line starts q (length (B .clause)) j (placeAt q j) others pos) (length line)) ≡
+        judgeConclusion (conclude A B i j k rule) claim
+    unfolding judgedOf before droppedAt
+    both-taken {l} {m} d e misshapen h =
+        let M = R .meets (placeAt p i) (placeAt q j) l m (place-here P i d) (place-here Q j e) in
+        stops _ _ _ (M .judged ∙ ap judgedOf h) (R .gives d e ∙ ap (λ z. before z (fillClause (A .image) (without i (A .clause)) ++ fillClause (B .image) (without j (B .clause)))) h)
+    both-taken {l} {m} d e (concludes g new) h =
+        let M = R .meets (placeAt p i) (placeAt q j) l m (place-here P i d) (place-here Q j e) in
+        let f : conclude A B i j k rule ≡ concludes g (new ++ (fillClause (A .image) (without i (A .clause)) ++ fillClause (B .image) (without j (B .clause)))) = R .gives d e ∙ ap (λ z. before z (fillClause (A .image) (without i (A .clause)) ++ fillClause (B .image) (without j (B .clause)))) h in
+        concluded rule k p (length (A .clause)) i (placeAt p i) line starts q (length (B .clause)) j (placeAt q j) others new (fillClause (A .image) (without i (A .clause))) (fillClause (B .image) (without j (B .clause)))
+        (M .claimed g new h) (rw (R .with-b) (part-others P G i)) (part-others Q H j) g (M .judged ∙ ap judgedOf h) at (given-over i j k rule f)
+        ∙ ap (λ z. judgeConclusion z claim) (sym f)
+
+    pub two-meets : concludeAt rule k p (length (A .clause)) i line starts q (length (B .clause)) j others pos ≡ judgeConclusion (conclude A B i j k rule) claim
+    unfolding concludeAt secondAt
+    two-meets = rw (R .with-b) (go (take-at i (A .clause)) (take-at j (B .clause)))
+      where
+        go : Taken i (A .clause) → Taken j (B .clause) →
+            thenClaim (rowAt rule k p (placeAt p i) line starts q (placeAt q j) others) (eqb (claimAt rule k p (length (A .clause)) i (placeAt p i) line starts q (length (B .clause)) j (placeAt q j) others pos) (length line)) ≡
+            judgeConclusion (conclude A B i j k rule) claim
+        go (taken l cs d) (taken m ds e) = both-taken d e (R .row l m) refl
+        go (absent d) t = stops _ _ _ (R .past _ _ (inl (place-past P i d))) (R .lacks (inl d))
+        go (taken l cs d) (absent e) = stops _ _ _ (R .past _ _ (inr (place-past Q j e))) (R .lacks (inr e))
