@@ -31,7 +31,8 @@ use Rattle.rules.proofs.Claimed.{strip-chain}
 use Rattle.rules.proofs.Answered.{judgedOf, within-here, within-past, right-shape}
 use Rattle.rules.proofs.Meets.{Images, LiteralAt, Meets}
 use Rattle.rules.proofs.TermsMeet.{missing, concluding}
-use Rattle.rules.proofs.RowsMeet.{link-small, both-within, one-past, past-shape, past-positive}
+use Rattle.rules.proofs.Targets.{link-small, past-positive}
+use Rattle.rules.proofs.RowsMeet.{both-within, one-past, past-shape}
 use Rattle.rules.proofs.CoversMeet.{AtomAt, arrow-range, covers-meet}
 
 module _ (p : List ℕ) {i v : ℕ} (x : Atom) where

@@ -3,21 +3,21 @@ use Prim.Native.Nat.{ℕ, zero, suc, _+_, _≤_, _<_}
 use mathlib.Core.Path.{_≡_, refl, _∙_, ap}
 use mathlib.Core.List.{List, []}
 use native.Mathlib.Omega.{arith}
-use lib.Dec.{T, leb→le, le→leb}
+use lib.Dec.{T}
 use lib.ListN.{length, drop}
 use Rattle.logic.specs.Syntax.{Term, var, Terms}
 use Rattle.logic.specs.Terms.{count}
 use Rattle.logic.specs.Each.{termWidth}
 use Rattle.logic.specs.Fill.{Substitution, fill, entries}
 use Rattle.reader.specs.Write.{word, putTerm, putTerms}
-use Rattle.reader.specs.Form.{depthOf, numbered, formedTerm}
+use Rattle.reader.specs.Form.{formedTerm}
 use Rattle.reader.specs.Read.{got}
 use Rattle.reader.specs.Access.{places, entryOf}
-use Rattle.reader.proofs.Tests.{T-and}
 use Rattle.reader.proofs.Nesting.{let-entry}
-use Rattle.rules.specs.Filled.{Filler, fillItem, plain, replacing}
+use Rattle.rules.specs.Filled.{fillItem, plain, replacing}
 use Rattle.rules.proofs.Filling.{Clear, after-it, fill-term}
 use Rattle.rules.proofs.Holes.{stack}
+use Rattle.rules.proofs.NumberedFill.{term-deeper}
 
 -- The entries of a list that is written in the line, by the places that starts(line, at) gives.
 pub line-entry : (line : List ℕ) (ts : Terms) (at : ℕ) (rest : List ℕ) → count ts ≤ 32 → at ≤ length line → drop at line ≡ putTerms ts (word ")" rest) → (n : ℕ) → n < count ts → entryOf line (places line 33 at) n ≡ putTerm (entries ts n) []
@@ -40,15 +40,11 @@ plain-bare line starts = refl
 pub plain-clear : (line starts : List ℕ) (low high : ℕ) → Clear (plain line starts .hole) low high
 plain-clear line starts low high = after-it (omega (arith, plain-bare line starts))
 
-pub formed-more : (d e : ℕ) (t : Term) → T (formedTerm d t) → d ≤ e → T (formedTerm e t)
-unfolding formedTerm
-formed-more d e t f h = let (m, n) = simp T-and at f in simp T-and (omega (arith, leb→le, le→leb), n)
-
 -- What goes into the hole: a term written at a place of q, filled by its own list.
 pub new-term : (line starts : List ℕ) (hole : ℕ) (q : List ℕ) (from : ℕ) (others : List ℕ) (τ : Substitution) (w d : ℕ) → ((n : ℕ) → n < w → entryOf line others n ≡ putTerm (τ n) []) → (t : Term) (rest : List ℕ) → T (formedTerm d t) → termWidth t ≤ w → drop from q ≡ putTerm t rest → (e : ℕ) → d ≤ e → (r : List ℕ) × (replacing line starts hole q from others .new e ≡ got (putTerm (fill τ t) []) r)
 unfolding replacing
 new-term line starts hole q from others τ w d h t rest f l p e k =
-    (rest, ap (fillItem (plain line others) e) p ∙ fill-term (plain line others) τ w e (plain-entry line others τ w h) t (formed-more d e t f k) l rest (plain-clear line others (length rest) (length (putTerm t rest))))
+    (rest, ap (fillItem (plain line others) e) p ∙ fill-term (plain line others) τ w e (plain-entry line others τ w h) t (term-deeper d e t k f) l rest (plain-clear line others (length rest) (length (putTerm t rest))))
 
 -- The depth of a call of `expect`.
 pub stack-sum : (D d : ℕ) → stack D d ≡ d + D

@@ -2,7 +2,7 @@
 use Prim.Native.Nat.{ℕ, _+_, _-_}
 use mathlib.Core.Bool.{true}
 use mathlib.Core.List.{List, [], _∷_}
-use mathlib.Core.Logic.{_⊎_, inl, inr}
+use mathlib.Core.Logic.{_⊎_, inl, inr, ⊎-elim}
 use mathlib.Core.Path.{_≡_, refl, sym, ap, subst, _∙_}
 use native.Mathlib.Omega.{arith}
 use lib.Dec.{eqb}
@@ -32,7 +32,9 @@ use Rattle.rules.proofs.Holes.{stack}
 use Rattle.rules.proofs.Occurring.{Occurs, nowhere, somewhere, occurs}
 use Rattle.rules.proofs.Placing.{walk-stands, walk-past, none-past}
 use Rattle.rules.proofs.Targets.{past-second}
-use Rattle.rules.proofs.Rewrites.{TermAt, Linked, unlinked, linked, link-at, Rewritten, misses-term, misses-link, not-rewritten, filler-entry, side-new, filler-hole, rewritten}
+use Rattle.rules.proofs.TermsMeet.{TermAt}
+use Rattle.rules.proofs.RowsMeet.{LinkView, no-link, a-link, onLinkOf, link-view}
+use Rattle.rules.proofs.Rewrites.{Rewritten, misses, not-rewritten, filler-entry, side-new, filler-hole, rewritten}
 use Rattle.rules.proofs.Meets.{Images, LiteralAt, Meets}
 
 -- The way to an occurrence ends within the bytes.
@@ -60,31 +62,28 @@ module _ (p line starts q others : List ℕ) (σ τ : Substitution) (v w : ℕ) 
   unfolding onFound
   searched i y k l a b c at-b at-c (nowhere j e) =
       let x = endOf p (toOccurrence k (drop i p)) in
-      not-rewritten p i x line starts q y true others (misses-term p i x line starts q y true others (walk-past p i (toOccurrence k) (a .stands) e)) refl
+      not-rewritten p i x line starts q y true others (inl (walk-past p i (toOccurrence k) (a .stands) e)) refl
   searched i y k l a b c at-b at-c (somewhere {l′} t left e small o h) =
       let stands = walk-stands p i (occurrence-tail k) (a .stands) o in
       rw e (rewritten p line starts q others σ τ v w images images′ true t b c l l′ (a .rest) (record { rest = left; stands = stands; formed = small .0; narrow = small .1 }) at-b at-c (a .stands)
       (h (filler-hole p line starts q others σ τ v w images images′ (nextAt q y) stands)))
 
-  by-eq : (i y k : ℕ) (l m : Literal) → LiteralAt p i v l → Linked q y Eq w m → Rewritten p i (endOf p (toOccurrence k (drop i p))) line starts q y true others (conclude-par σ k l (fillLiteral τ m))
+  by-eq : (i y k : ℕ) (l m : Literal) → LiteralAt p i v l → LinkView q y τ w (onLinkOf τ Eq m) → Rewritten p i (endOf p (toOccurrence k (drop i p))) line starts q y true others (conclude-par σ k l (fillLiteral τ m))
   unfolding conclude-par formedLiteral width stack
-  by-eq i y k l m a (unlinked e d) =
-      let x = endOf p (toOccurrence k (drop i p)) in
-      not-rewritten p i x line starts q y true others (misses-link p i x line starts q y true others e) (d τ _)
-  by-eq i y k (lit g z) m a (linked b c at-b at-c d) =
+  by-eq i y k l m a (no-link e d) = not-rewritten p i (endOf p (toOccurrence k (drop i p))) line starts q y true others (inr e) (d _)
+  by-eq i y k (lit g z) m a (a-link b c at-b at-c d) =
       let x = endOf p (toOccurrence k (drop i p)) in
       let f = replacing line starts (length p - x) q (nextAt q y) others in
-      subst (Rewritten p i x line starts q y true others) (sym (d τ _)) (searched i y k (lit g z) a b c at-b at-c
+      subst (Rewritten p i x line starts q y true others) (sym (d _)) (searched i y k (lit g z) a b c at-b at-c
       (occurs f σ v 16 16 (filler-entry p line starts q others σ τ v w images images′ x (nextAt q y)) (fill τ c) (side-new p line starts q others σ τ v w images images′ true x b c at-b at-c) g z (a .formed) (omega (arith, a .narrow)) k (a .rest)))
 
   pub par-meets : (i j k : ℕ) (l m : Literal) → LiteralAt p i v l → LiteralAt q j w m → Meets Par k p i line starts q j others (conclude-par σ k l (fillLiteral τ m))
   unfolding rowAt parAt newAt parNewAt
-  par-meets i j k l m a b = let r = by-eq i (firstAt q (bytes "(eq ") j) k l m a (link-at q w j Eq m b) in record { judged = r .judged; claimed = r .claimed }
+  par-meets i j k l m a b = let r = by-eq i (firstAt q (bytes "(eq ") j) k l m a (link-view q j w τ Eq m b) in record { judged = r .judged; claimed = r .claimed }
 
 -- A literal that is missing is misshapen.
 pub par-past : (k : ℕ) (p : List ℕ) (i : ℕ) (line starts q : List ℕ) (j : ℕ) (others : List ℕ) → (i ≡ length p + 1) ⊎ (j ≡ length q + 1) → rowAt Par k p i line starts q j others ≡ Misshapen
 unfolding rowAt parAt toOccurrence strip
-par-past k p i line starts q j others (inl e) =
-    misses-term p i (endOf p (toOccurrence k (drop i p))) line starts q (firstAt q (bytes "(eq ") j) true others (ap (λ i. endOf p (toOccurrence k (drop i p))) e ∙ none-past p (toOccurrence k) refl)
-par-past k p i line starts q j others (inr e) =
-    misses-link p i (endOf p (toOccurrence k (drop i p))) line starts q (firstAt q (bytes "(eq ") j) true others (ap (λ j. nextAt q (firstAt q (bytes "(eq ") j)) e ∙ past-second q Eq)
+par-past k p i line starts q j others missing =
+    misses p i (endOf p (toOccurrence k (drop i p))) line starts q (firstAt q (bytes "(eq ") j) true others
+    (⊎-elim (λ e. inl (ap (λ at. endOf p (toOccurrence k (drop at p))) e ∙ none-past p (toOccurrence k) refl)) (λ e. inr (ap (λ at. nextAt q (firstAt q (bytes "(eq ") at)) e ∙ past-second q Eq)) missing)

@@ -1,5 +1,5 @@
 -- refl, acy and sca: what checks 9 to 11 say in bytes is what the rule table says.
-use Prim.Native.Nat.{ℕ, _+_, _≤_, _<_}
+use Prim.Native.Nat.{ℕ, _+_, _≤_}
 use mathlib.Core.Bool.{Bool, true, false, _&&_}
 use mathlib.Core.List.{List, [], _∷_}
 use mathlib.Core.Logic.{_⊎_, inl, inr, _↔_, ite}
@@ -9,7 +9,7 @@ use lib.Dec.{T}
 use lib.ListN.{length}
 use Rattle.logic.specs.declared.Sign.the-variants.{Positive, Negative}
 use Rattle.logic.specs.declared.Link.{Link}
-use Rattle.logic.specs.declared.Link.the-variants.{Eq, Mem, Sub}
+use Rattle.logic.specs.declared.Link.the-variants.{Eq, Sub}
 use Rattle.logic.specs.declared.Arrow.{Arrow}
 use Rattle.logic.specs.declared.Arrow.the-variants.{Sv, Si, Mv, Mi, St, Mt}
 use Rattle.logic.specs.declared.Rule.the-variants.{Refl, Acy, Sca}
@@ -31,8 +31,8 @@ use Rattle.rules.specs.Shapes.{stripAt, nextAt, positiveAt, firstAt, ifP
 use Rattle.rules.specs.Rows.{within, answer, acyAt, equalTests, sameArrowAt, scaAt}
 use Rattle.rules.specs.Table.{rowAt}
 use Rattle.rules.specs.Conclusions.{reflNewAt, acyNewAt, scaNewAt, newAt}
-use Rattle.rules.proofs.Placing.{Stands, positive-stands, negative-past, head-stands, head-past, next-term, past-next, past-strip, inner, either-stands, either-past, past-inner, object-of, object-none, past-object}
-use Rattle.rules.proofs.Targets.{kind-link, link-arrow, link-past}
+use Rattle.rules.proofs.Placing.{Stands, positive-stands, negative-past, head-stands, head-past, next-term, inner, either-stands, either-past, past-inner, object-of, object-none, past-object}
+use Rattle.rules.proofs.Targets.{kind-link, link-object, link-arrow, link-past, past-link, past-positive, past-second}
 use Rattle.rules.proofs.Answered.{judgedOf, within-here, within-past, right-shape}
 use Rattle.rules.proofs.Meets.{Images, LiteralAt, Meets}
 use Rattle.rules.proofs.TermsMeet.{TermAt, CallAt, call-stands, result-at, term-meets, calls-meet, linked-claimed, missing, concluding}
@@ -54,22 +54,6 @@ pub data LinkView (p : List ℕ) (x : ℕ) (σ : Substitution) (v : ℕ) (c : (T
   no-link : nextAt p x ≡ length p + 1 → ((f : Term → Term → Conclusion) → c f ≡ misshapen) → LinkView p x σ v c
   a-link : (t u : Term) → TermAt p x v t → TermAt p (nextAt p x) v u → ((f : Term → Term → Conclusion) → c f ≡ f (fill σ t) (fill σ u)) → LinkView p x σ v c
 
--- Links come before the other kinds.
-pub link-small : (k : Link) → linkKind k < 3
-link-small = elim [ Eq ↦ omega arith | Mem ↦ omega arith | Sub ↦ omega arith ]
-
--- Past the end there is none.
-past-link : (p : List ℕ) (k : Link) → nextAt p (stripAt p (head (linkKind k)) (length p + 1)) ≡ length p + 1
-past-link p = elim [
-  | Eq ↦ ap (nextAt p) (past-strip p 40 _) ∙ past-next p
-  | Mem ↦ ap (nextAt p) (past-strip p 40 _) ∙ past-next p
-  | Sub ↦ ap (nextAt p) (past-strip p 40 _) ∙ past-next p
-]
-
-pub past-positive : (p : List ℕ) → positiveAt p (length p + 1) ≡ length p + 1
-unfolding positiveAt
-past-positive p = past-strip p 40 _
-
 abbrev pub onLinkOf : Substitution → Link → Literal → (Term → Term → Conclusion) → Conclusion
 onLinkOf σ k l f = onPlus (fillLiteral σ l) (λ x. onLink k x f)
 
@@ -89,7 +73,7 @@ module _ (p : List ℕ) (i v : ℕ) (σ : Substitution) where
           let h = a .narrow in
           rw (ap linkKind e) (a-link t u (record { rest = _; stands = s; formed = ft; narrow = omega arith }) (record { rest = _; stands = next-term p t s; formed = fu; narrow = omega arith }) (λ f. refl))
       go (no e) = no-link (link-past p k (link l t u) (word ")" (a .rest)) (λ h. e (kind-link k l h)) atom) (λ f. refl)
-  link-view k (lit Positive (obj t)) a = no-link (link-past p k (obj t) (word ")" (a .rest)) (λ h. omega (arith, link-small k)) (positive-stands p (obj t) (a .rest) (a .stands))) (λ f. refl)
+  link-view k (lit Positive (obj t)) a = no-link (link-past p k (obj t) (word ")" (a .rest)) (link-object k) (positive-stands p (obj t) (a .rest) (a .stands))) (λ f. refl)
   link-view k (lit Positive (method b o m ts r)) a =
       no-link (link-past p k (method b o m ts r) (word ")" (a .rest)) (link-arrow k b) (positive-stands p (method b o m ts r) (a .rest) (a .stands))) (λ f. refl)
 
@@ -219,16 +203,12 @@ past-scalar-object : (p : List ℕ) (i : ℕ) → i ≡ length p + 1 → objectA
 unfolding objectAt
 past-scalar-object p i e = rw (e, past-positive p) (past-scalar p)
 
-past-sub : (p : List ℕ) (i : ℕ) → i ≡ length p + 1 → nextAt p (firstAt p (bytes "(sub ") i) ≡ length p + 1
-unfolding firstAt
-past-sub p i e = rw (e, past-positive p) (past-link p Sub)
-
 -- A literal that is missing is misshapen.
 module _ (k : ℕ) (p : List ℕ) (i : ℕ) (line starts q : List ℕ) (j : ℕ) (others : List ℕ) where
   pub acy-past : (i ≡ length p + 1) ⊎ (j ≡ length q + 1) → rowAt Acy k p i line starts q j others ≡ Misshapen
   unfolding rowAt acyAt
-  acy-past (inl e) = past-shape p q _ _ _ (inl (past-sub p i e))
-  acy-past (inr e) = past-shape p q _ _ _ (inr (past-sub q j e))
+  acy-past (inl e) = past-shape p q _ _ _ (inl (ap (λ at. nextAt p (firstAt p (bytes "(sub ") at)) e ∙ past-second p Sub))
+  acy-past (inr e) = past-shape p q _ _ _ (inr (ap (λ at. nextAt q (firstAt q (bytes "(sub ") at)) e ∙ past-second q Sub))
 
   pub sca-past : (i ≡ length p + 1) ⊎ (j ≡ length q + 1) → rowAt Sca k p i line starts q j others ≡ Misshapen
   unfolding rowAt scaAt

@@ -66,15 +66,16 @@ link-number = elim [ Eq ↦ refl | Mem ↦ refl | Sub ↦ refl ]
 pub kind-link : (k l : Link) → linkKind k ≡ linkKind l → k ≡ l
 kind-link k l e = sym (link-back k) ∙ (ap linkAt (link-number k ∙ (e ∙ sym (link-number l))) ∙ link-back l)
 
-link-low : (k : Link) → linkKind k < 3
-link-low = elim [ Eq ↦ omega arith | Mem ↦ omega arith | Sub ↦ omega arith ]
+-- Links come before the other kinds.
+pub link-small : (k : Link) → linkKind k < 3
+link-small = elim [ Eq ↦ omega arith | Mem ↦ omega arith | Sub ↦ omega arith ]
 
 -- A link is no object and no arrow.
 pub link-object : (k : Link) → linkKind k ≡ 3 → ⊥
-link-object k e = omega (arith, link-low k)
+link-object k e = omega (arith, link-small k)
 
 pub link-arrow : (k : Link) (a : Arrow) → linkKind k ≡ arrowKind a → ⊥
-link-arrow k a e = omega (arith, link-low k, high a)
+link-arrow k a e = omega (arith, link-small k, high a)
   where
     high : (a : Arrow) → 4 ≤ arrowKind a
     high = elim [ Sv ↦ omega arith | Si ↦ omega arith | Mv ↦ omega arith | Mi ↦ omega arith | St ↦ omega arith | Mt ↦ omega arith ]
@@ -189,7 +190,7 @@ kind-signature Mt h = absurd (true≢false h)
 module _ (p : List ℕ) where
   -- The second term of a link, from its atom on.
   pub link-past : (k : Link) {at : ℕ} (x : Atom) (rest : List ℕ) → (linkKind k ≡ kindNumber x → ⊥) → Stands p at (putAtom x rest) → nextAt p (stripAt p (head (linkKind k)) at) ≡ length p + 1
-  link-past k x rest e s = ap (nextAt p) (head-past p (linkKind k) x rest (omega (arith, link-low k)) e s) ∙ past-next p
+  link-past k x rest e s = ap (nextAt p) (head-past p (linkKind k) x rest (omega (arith, link-small k)) e s) ∙ past-next p
 
   pub past-link : (k : Link) → nextAt p (stripAt p (head (linkKind k)) (length p + 1)) ≡ length p + 1
   past-link Eq = ap (nextAt p) (past-strip p 40 _) ∙ past-next p
@@ -217,7 +218,7 @@ module _ (p : List ℕ) where
   past-input k = ap (λ a. argumentAt p (nextAt p a) k) (past-next p) ∙ (ap (λ a. argumentAt p a k) (past-next p) ∙ past-argument k)
 
   -- A literal that is missing has no target.
-  past-positive : positiveAt p (length p + 1) ≡ length p + 1
+  pub past-positive : positiveAt p (length p + 1) ≡ length p + 1
   unfolding positiveAt
   past-positive = past-strip p 40 _
 

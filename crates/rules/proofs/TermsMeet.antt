@@ -1,5 +1,5 @@
 -- Terms of written literals: when two agree, and a new literal of two of them.
-use Prim.Native.Nat.{ℕ, _≤_, max}
+use Prim.Native.Nat.{ℕ, _≤_}
 use mathlib.Core.Bool.{Bool}
 use mathlib.Core.List.{List, [], _∷_, _++_}
 use mathlib.Core.Logic.{_↔_}
@@ -11,8 +11,8 @@ use Rattle.logic.specs.declared.Link.{Link}
 use Rattle.logic.specs.declared.Arrow.{Arrow}
 use Rattle.logic.specs.declared.Rule.{Rule}
 use Rattle.logic.specs.declared.Judged.the-variants.{Misshapen}
-use Rattle.logic.specs.Syntax.{Term, var, app, Terms, nil, cons, Result, value, link, method, Clause}
-use Rattle.logic.specs.Terms.{join, resultTerms, termsOf}
+use Rattle.logic.specs.Syntax.{Term, var, app, Terms, Result, value, link, method, Clause}
+use Rattle.logic.specs.Terms.{resultTerms, termsOf}
 use Rattle.logic.specs.Each.{termWidth, termsWidth}
 use Rattle.logic.specs.Fill.{Substitution, fill, fills}
 use Rattle.logic.specs.Rules.{Agreement, plus}
@@ -22,6 +22,7 @@ use Rattle.reader.specs.Write.{word, putTerm, putArguments, putResult, putAtom,
 use Rattle.reader.specs.Form.{numbered, numbereds, formedTerm, formedTerms, formedResult, formedAtom}
 use Rattle.reader.proofs.Plain.{in-front, term-plain}
 use Rattle.reader.proofs.Tests.{T-and}
+use Rattle.reader.proofs.Trees.{join-width}
 use Rattle.rules.specs.Filled.{fillItem, replacing, matches, endsOf}
 use Rattle.rules.specs.Shapes.{stripAt, nextAt, resultAt}
 use Rattle.rules.specs.Claims.{filledAt, linkedAt}
@@ -48,11 +49,6 @@ pub record ArgumentsAt (p : List ℕ) (at : ℕ) (w : ℕ) (ts : Terms) : Type 0
   pub stands : Stands p at (putArguments ts rest)
   pub formed : T (formedTerms 16 ts)
   pub narrow : termsWidth ts ≤ w
-
-join-width : (ts us : Terms) → termsWidth (join ts us) ≡ max (termsWidth ts) (termsWidth us)
-unfolding join termWidth
-join-width nil us = omega arith
-join-width (cons t ts) us = let e = join-width ts us in omega arith
 
 -- Object, method and arguments of an arrow atom, the object at x.
 pub record CallAt (p : List ℕ) (x : ℕ) (w : ℕ) (o m : Term) (ts : Terms) : Type 0 where
