@@ -31,3 +31,4 @@ pub mod RewriteExamples
 pub mod Rewrites
 pub mod ParMeets
 pub mod RuleMeets
+pub mod JudgeMeets

@@ -83,39 +83,39 @@ module _ (A B : Parent) {p line starts q others : List ℕ} (G : Images line sta
     past = past;
   }
 
-  res-two : TwoParents Res k A B i j p line starts q others
+  pub res-two : TwoParents Res k A B i j p line starts q others
   unfolding uses conclude
   res-two = table-two Res refl refl (λ x y. res-meets G H k p q x y) (λ x y. res-past k p x line starts q y others)
 
-  acy-two : TwoParents Acy k A B i j p line starts q others
+  pub acy-two : TwoParents Acy k A B i j p line starts q others
   unfolding uses conclude
   acy-two = table-two Acy refl refl (λ x y. acy-meets G H k p q x y) (λ x y. acy-past k p x line starts q y others)
 
-  sca-two : TwoParents Sca k A B i j p line starts q others
+  pub sca-two : TwoParents Sca k A B i j p line starts q others
   unfolding uses conclude
   sca-two = table-two Sca refl refl (λ x y. sca-meets G H k p q x y) (λ x y. sca-past k p x line starts q y others)
 
-  tra-two : TwoParents Tra k A B i j p line starts q others
+  pub tra-two : TwoParents Tra k A B i j p line starts q others
   unfolding uses conclude
   tra-two = table-two Tra refl refl (λ x y. tra-meets p line starts q others (A .image) (B .image) (width (A .clause)) (width (B .clause)) G H x y k) (λ x y. tra-past k p x line starts q y others)
 
-  inc-two : TwoParents Inc k A B i j p line starts q others
+  pub inc-two : TwoParents Inc k A B i j p line starts q others
   unfolding uses conclude
   inc-two = table-two Inc refl refl (λ x y. inc-meets p line starts q others (A .image) (B .image) (width (A .clause)) (width (B .clause)) G H x y k) (λ x y. inc-past k p x line starts q y others)
 
-  inh-two : TwoParents Inh k A B i j p line starts q others
+  pub inh-two : TwoParents Inh k A B i j p line starts q others
   unfolding uses conclude
   inh-two = table-two Inh refl refl (λ x y. inh-meets p line starts q others (A .image) (B .image) (width (A .clause)) (width (B .clause)) G H x y k) (λ x y. inh-past k p x line starts q y others)
 
-  inp-two : TwoParents Inp k A B i j p line starts q others
+  pub inp-two : TwoParents Inp k A B i j p line starts q others
   unfolding uses conclude
   inp-two = table-two Inp refl refl (λ x y. inp-meets p line starts q others (A .image) (B .image) (width (A .clause)) (width (B .clause)) G H x y k) (λ x y. inp-past k p x line starts q y others)
 
-  out-two : TwoParents Out k A B i j p line starts q others
+  pub out-two : TwoParents Out k A B i j p line starts q others
   unfolding uses conclude
   out-two = table-two Out refl refl (λ x y. out-meets p line starts q others (A .image) (B .image) (width (A .clause)) (width (B .clause)) G H x y k) (λ x y. out-past k p x line starts q y others)
 
-  par-two : TwoParents Par k A B i j p line starts q others
+  pub par-two : TwoParents Par k A B i j p line starts q others
   unfolding uses
   par-two = record {
     with-b = refl;
@@ -137,14 +137,14 @@ module _ {p : List ℕ} {at w : ℕ} where
   minus-dropped x a i j = rw (within-past p (positiveAt p at) (negative-past p x (a .rest) (a .stands)))
 
 -- The rules without B: nothing of it is expected.
-abbrev bare : Substitution → Parent
+abbrev pub bare : Substitution → Parent
 bare τ = record { clause = []; image = τ }
 
-no-over : (τ : Substitution) → Over formedNumber formedSymbol (filled (bare τ))
+pub no-over : (τ : Substitution) → Over formedNumber formedSymbol (filled (bare τ))
 unfolding filled fillClause Over
 no-over τ = tt
 
-no-others : (line q others : List ℕ) (j : ℕ) → Expects line [] (othersAt q 0 j line others)
+pub no-others : (line q others : List ℕ) (j : ℕ) → Expects line [] (othersAt q 0 j line others)
 unfolding othersAt othersFrom putLiterals
 no-others line q others j pos b x = refl
 
