@@ -167,6 +167,7 @@ fn parts(text: &[u8], state: State, line: &[u8], l: LineAt) -> Judged
 // Checks 7 to 11 of the step that the line is.
 pub fn judge(text: &[u8], state: State, line: &[u8]) -> Judged
     ensures { λ r. ⌜ r ≡ judgeAt (now (text .entry)) state (now (line .entry)) ⌝ }
+    ensures { λ r. ⌜ Judges (now (text .entry)) state (now (line .entry)) r ⌝ }
 {
     let l = read_form(line, &line[0..0]);
     parts(text, state, line, l)

@@ -1,4 +1,13 @@
-use Rattle.rules.specs.Judging.{judgeAt}
+use mathlib.Core.List.{List, []}
+use mathlib.Core.Path.{_≡_, sym, ap, subst, _∙_}
+use Prim.Native.Nat.{ℕ}
+use Rattle.logic.specs.declared.Judged.{Judged}
+use Rattle.reader.specs.declared.forms.LineAt.{LineAt}
+use Rattle.reader.specs.declared.states.State.{State}
+use Rattle.reader.specs.Read.{readLine}
+use Rattle.reader.specs.LineAt.{lineOf}
+use Rattle.rules.specs.Judging.{partsAt, judgeAt, Judges}
+use Rattle.rules.proofs.JudgeMeets.{judge-meets}
 use borrow.Author.Needs.{needs}
 use Rattle.rules.proofs.steps.judge.Statement.{statement}
 use Rattle.rules.proofs.steps.judge.Tie as tie
@@ -28,9 +37,16 @@ parts-requires : tie.Need-parts-requires
 parts-requires c κs = tt
 
 -- src/steps.rt:168:1
-returns : tie.Need-returns
+is-judged : (text line : List ℕ) (held : State) {l : LineAt} {r : Judged} → r ≡ partsAt text held line l → l ≡ lineOf [] line (readLine 16 line) → r ≡ judgeAt text held line
 unfolding judgeAt
-returns c = rw (c .parts .ensures, c .before .line .ensures)
+is-judged text line held e f = e ∙ ap (partsAt text held line) f
+
+both-promises : (text line : List ℕ) (held : State) {r : Judged} → r ≡ judgeAt text held line → (r ≡ judgeAt text held line) × Judges text held line r
+both-promises text line held e = (e, subst (Judges text held line) (sym e) (judge-meets text held line))
+
+-- src/steps.rt:168:1
+returns : tie.Need-returns
+returns c = both-promises _ _ _ (is-judged _ _ _ (c .parts .ensures) (c .before .line .ensures))
 
 pub judge-spec : {M : Type 1} → statement M
 judge-spec =
