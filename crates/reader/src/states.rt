@@ -49,7 +49,7 @@ pub fn fresh() -> State
 }
 
 // Whether some symbol takes no terms.
-fn has_constant(table: &[u8]) -> bool
+pub fn has_constant(table: &[u8]) -> bool
     ensures { λ r. ⌜ r ≡ hasConstant (now (table .entry)) ⌝ }
 {
     let mut i = 0;

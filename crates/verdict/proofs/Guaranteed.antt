@@ -5,7 +5,7 @@ use mathlib.Core.List.{List}
 use mathlib.Core.Logic.{_↔_}
 use mathlib.Core.Path.{_≡_, refl, sym, subst}
 use lib.Dec.{T}
-use Rattle.logic.specs.Structure.{Reading}
+use Rattle.logic.specs.Structure.{Reading, plainly, truncated, notNot}
 use Rattle.reader.specs.Figures.{Figures}
 use Rattle.verdict.specs.declared.Verdict.{Verdict}
 use Rattle.verdict.specs.declared.Verdict.the-variants.{Refuted, Open, Refused}
@@ -50,6 +50,10 @@ module _ (F : Figures) (text : List ℕ) where
     entailed = λ h S. accepted-entails F text (accepted-exactly .0 h) R (λ x. True (S x));
     accepts = λ w. accepted-exactly .1 (written-accepted F text w);
   }
+
+  -- What `check` promises, from its equation.
+  pub answered : (v : Verdict) → v ≡ verdict F text → (v ≡ verdict F text) × (Guarantee plainly T F text v × (Guarantee truncated T F text v × Guarantee notNot T F text v))
+  answered v e = (e, rw e (guaranteed plainly T, (guaranteed truncated T, guaranteed notNot T)))
 
   -- "Accepted" and "a written derivation within the limits" are the same.
   pub accepted-is-written : T (isAccepted (verdict F text)) ↔ WrittenText F text

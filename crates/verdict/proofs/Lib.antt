@@ -4,3 +4,5 @@ pub mod Entailed
 pub mod Accepts
 pub mod Guaranteed
 pub mod Worked
+pub mod Ends
+pub mod Running

@@ -3,3 +3,4 @@ pub mod Checks
 pub mod Answer
 pub mod Guarantee
 pub mod Corners
+pub mod Running

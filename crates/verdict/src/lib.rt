@@ -1,3 +1,30 @@
+// The verdict of a text: its lines are read and judged one after the other, and where none fails the clauses are counted.
+
+use logic::Judged;
+use reader::states::State;
+use reader::states::fresh;
+use reader::states::has_constant;
+use reader::states::read_line;
+use reader::texts::line_end;
+use reader::texts::line_ended;
+use reader::texts::too_large;
+use reader::words::word;
+use rules::steps::judge;
+ghost use Prim.Native.Nat.{_≤_, _<_};
+ghost use mathlib.Core.Path.{_≡_};
+ghost use mathlib.Core.Bool.{false};
+ghost use lib.Dec.{T};
+ghost use lib.ListN.{length};
+ghost use Rattle.logic.specs.Judge.{judgedNumber};
+ghost use Rattle.logic.specs.Structure.{plainly, truncated, notNot};
+ghost use Rattle.reader.specs.Figures.{office};
+ghost use Rattle.reader.specs.Size.{lineEndAt};
+ghost use Rattle.reader.specs.State.{fresh as freshly};
+ghost use Rattle.verdict.specs.Checks.{readings, tooLarge};
+ghost use Rattle.verdict.specs.Answer.{readOn, verdict};
+ghost use Rattle.verdict.specs.Guarantee.{Guarantee};
+ghost use Rattle.verdict.specs.Running.{Ended, Next, FindsEmpty, Finishes};
+
 // The answer to a text.
 pub enum Verdict {
     // Accepted: the number of clauses, and the number of the first empty one.
@@ -6,4 +33,136 @@ pub enum Verdict {
     Open { count: usize },
     // The first failing check of the first failing line, and that line.
     Refused { number: usize, line: usize },
+}
+
+// What a line tells: the number of its first failing check of 2 to 11, or 0, and the state after it.
+struct Checked {
+    failure: usize,
+    state: State,
+}
+
+// The number of the check of 7 to 11 that fails, or 0.
+fn number(j: Judged) -> usize
+    ensures { λ r. ⌜ r ≡ judgedNumber j ⌝ }
+{
+    match j {
+        Judged::Passed => 0,
+        Judged::NoParent => 7,
+        Judged::WrongNumber => 8,
+        Judged::Misshapen => 9,
+        Judged::Disagrees => 10,
+        Judged::WrongClaim => 11,
+    }
+}
+
+// An ended line, without its line end, which begins at the place `at` of the text: a step is judged by the clauses before it.
+fn ended(text: &[u8], at: usize, line: &[u8], state: State) -> Checked
+    ensures { λ r. ⌜ Ended (now (text .entry)) at (now (line .entry)) state r ⌝ }
+{
+    let read = read_line(state, line, at);
+    let failure = read.failure;
+    let next = read.state;
+    if failure != 0 {
+        return Checked {
+            failure,
+            state: next,
+        };
+    }
+    if !read.by {
+        return Checked {
+            failure,
+            state: next,
+        };
+    }
+    let judged = judge(text, state, line);
+    let failure = number(judged);
+    Checked {
+        failure,
+        state: next,
+    }
+}
+
+// The line from `at` on: bytes after the last line end are no form.
+fn next(text: &[u8], at: usize, end: usize, state: State) -> Checked
+    requires { ⌜ (at < length (now text)) × (end ≡ lineEndAt (now text) at) ⌝ }
+    ensures { λ r. ⌜ Next (now (text .entry)) at state r ⌝ }
+{
+    if !line_ended(text, at) {
+        return Checked { failure: 2, state };
+    }
+    ended(text, at, &text[at..end], state)
+}
+
+// The number of the first empty clause, or of all clauses where none is empty.
+fn first_empty(text: &[u8], state: State) -> usize
+    requires { ⌜ state .clauses ≤ 1024 ⌝ }
+    ensures { λ r. ⌜ FindsEmpty (now (text .entry)) state r ⌝ }
+{
+    let starts = state.starts;
+    let clauses = state.clauses;
+    let mut n = 0;
+    while n < clauses {
+        let at = starts[n] as usize;
+        if word(text, at, b"(or)") <= text.len() {
+            return n;
+        }
+        n += 1;
+    }
+    n
+}
+
+// All lines have passed.
+fn finish(text: &[u8], state: State) -> Verdict
+    requires { ⌜ (state .symbols ≤ length (state .counts)) × (state .clauses ≤ 1024) ⌝ }
+    ensures { λ r. ⌜ Finishes (now (text .entry)) state r ⌝ }
+{
+    let counts = state.counts;
+    let symbols = state.symbols;
+    if !has_constant(&counts[..symbols]) {
+        return Verdict::Refused { number: 4, line: 0 };
+    }
+    let count = state.clauses;
+    let first = first_empty(text, state);
+    if first < count {
+        return Verdict::Refuted { count, first };
+    }
+    Verdict::Open { count }
+}
+
+// The lines one after the other, up to the first that fails.
+fn read_on(text: &[u8]) -> Verdict
+    requires { ⌜ tooLarge office (now text) ≡ false ⌝ }
+    ensures { λ r. ⌜ r ≡ readOn office freshly 1 (readings office (now (text .entry))) ⌝ }
+{
+    let mut state = fresh();
+    let mut at = 0;
+    let mut line = 1;
+    while at < text.len() {
+        let end = line_end(text, at);
+        let checked = next(text, at, end, state);
+        let failure = checked.failure;
+        if failure != 0 {
+            return Verdict::Refused {
+                number: failure,
+                line,
+            };
+        }
+        state = checked.state;
+        at = end + 1;
+        line += 1;
+    }
+    finish(text, state)
+}
+
+// The verdict of a text, and what it means.
+pub fn check(text: &[u8]) -> Verdict
+    ensures { λ r. ⌜ r ≡ verdict office (now (text .entry)) ⌝ }
+    ensures { λ r. ⌜ Guarantee plainly T office (now (text .entry)) r ⌝ }
+    ensures { λ r. ⌜ Guarantee truncated T office (now (text .entry)) r ⌝ }
+    ensures { λ r. ⌜ Guarantee notNot T office (now (text .entry)) r ⌝ }
+{
+    if too_large(text) {
+        return Verdict::Refused { number: 1, line: 0 };
+    }
+    read_on(text)
 }

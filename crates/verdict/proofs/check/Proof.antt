@@ -1,0 +1,29 @@
+-- `verdict::check` meets its contract: the verdict of the definitions, and what it means.
+use mathlib.Core.Bool.{true, false}
+use mathlib.Core.Path.{_≡_, sym, _∙_}
+use Rattle.verdict.specs.Answer.{verdict}
+use Rattle.verdict.proofs.Guaranteed.{answered}
+use borrow.Author.Needs.{needs}
+use Rattle.verdict.proofs.check.Statement.{statement}
+use Rattle.verdict.proofs.check.Tie as tie
+
+too-large-requires : tie.Need-too-large-requires
+too-large-requires c κs = search needs
+
+returns : tie.Need-returns
+unfolding verdict
+returns c =
+    let e : c .before .too-large .result ≡ true = c .if1 .taken in
+    answered _ _ _ (rw (← c .before .too-large .ensures, e))
+
+read-on-requires : tie.Need-read-on-requires
+read-on-requires c κs = sym (c .before .too-large .ensures) ∙ c .if1 .left
+
+returns-2 : tie.Need-returns-2
+unfolding verdict
+returns-2 c =
+    let e : c .before .before .too-large .result ≡ false = c .before .if1 .left in
+    answered _ _ _ (rw (← c .before .before .too-large .ensures, e) (c .read-on .ensures))
+
+pub check-spec : {M : Type 1} → statement M
+check-spec = tie.close (tie.spec too-large-requires returns read-on-requires returns-2)
