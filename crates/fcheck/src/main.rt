@@ -1,0 +1,45 @@
+// Reads a text from standard input and prints its verdict.
+ghost use Rattle.fcheck.specs.Reading.{Within};
+use libc::STDERR_FILENO;
+use libc::STDIN_FILENO;
+
+// What came of reading.
+enum Input {
+    // So many bytes, up to the input's end or until the buffer was full.
+    Bytes(usize),
+    Failed,
+}
+
+// Reads into text until it is full, the input ends or a read fails.
+fn read_text(text: &mut [u8]) -> Input
+    ensures { λ r. ⌜ Within (now (text .exit)) r ⌝ }
+{
+    let mut at = 0;
+    while at < text.len() {
+        let got = libc::read(STDIN_FILENO, &mut text[at..]);
+        if got < 0 {
+            return Input::Failed;
+        }
+        let n = io::count(got, &text[at..]);
+        if n == 0 {
+            return Input::Bytes(at);
+        }
+        at += n;
+    }
+    Input::Bytes(at)
+}
+
+// The buffer has one byte more than a text may have: where it is full the text has too many, which
+// `check` sees by its length, and nothing more is read.
+fn main() {
+    let mut text = io::large_buffer();
+    let input = read_text(&mut text);
+    match input {
+        Input::Bytes(n) => {
+            answer::print(verdict::check(&text[..n]));
+        }
+        Input::Failed => {
+            io::write_all(STDERR_FILENO, b"fcheck: standard input can't be read\n");
+        }
+    }
+}
