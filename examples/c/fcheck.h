@@ -1,0 +1,26 @@
+/* The verdict on a text, from target/staticlib/libcapi.a (`rt staticlib capi`). docs/C-API.md says what a caller owes. */
+#ifndef FCHECK_H
+#define FCHECK_H
+
+#include <stddef.h>
+#include <stdint.h>
+
+#ifdef __cplusplus
+extern "C" {
+#endif
+
+/* The word of a verdict. */
+enum {
+    FCHECK_REFUSED = 0, /* first: the failing check, 1 to 11; second: the line, 0 where there is none */
+    FCHECK_OPEN = 1,    /* first: the number of clauses; second: 0 */
+    FCHECK_REFUTED = 2  /* first: the number of clauses; second: the number of the first empty one */
+};
+
+/* Answers the word of the verdict on text[0 .. length - 1] and leaves the verdict's numbers in *first and *second. */
+uint32_t fcheck_check(const uint8_t *text, size_t length, size_t *first, size_t *second);
+
+#ifdef __cplusplus
+}
+#endif
+
+#endif
