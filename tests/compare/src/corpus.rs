@@ -13,6 +13,7 @@ use second::{check, MAX_BYTES, MAX_LINES};
 
 use crate::coverage::{can_fail, classify, rules_of, Class, Coverage};
 use crate::examples::read_examples;
+use crate::second_line;
 
 /// No text of the corpus is longer: one byte above the limit shows that a text
 /// is too long.
@@ -358,6 +359,12 @@ impl Corpus {
             file.extend(text);
         }
         file
+    }
+
+    /// The second checker's line for each text.
+    pub fn lines(&self) -> Vec<u8> {
+        let lines = self.texts.iter().flat_map(|text| second_line(text));
+        lines.collect()
     }
 }
 

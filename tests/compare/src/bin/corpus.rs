@@ -5,7 +5,6 @@ use std::path::Path;
 use std::process::ExitCode;
 
 use compare::corpus::Corpus;
-use compare::second_line;
 
 const USAGE: &str = "\
 usage: corpus OUT_DIR   writes OUT_DIR/data/corpus.bin and OUT_DIR/stdout";
@@ -34,11 +33,7 @@ fn make(folder: &Path) -> Result<(), String> {
         return Err(missing.join("\n"));
     }
     let file = corpus.file();
-    let lines: Vec<u8> = corpus
-        .texts()
-        .iter()
-        .flat_map(|text| second_line(text))
-        .collect();
+    let lines = corpus.lines();
     let write = |name: &str, bytes: &[u8]| {
         let path = folder.join(name);
         let parent = path.parent().unwrap_or(folder);
