@@ -1,32 +1,33 @@
 -- The other literals of a written clause, expected in the line.
-use Prim.Native.Nat.{ℕ, _+_, _-_, _≤_, _<_}
+use Prim.Native.Nat.{ℕ, zero, suc, _+_, _-_, _≤_, _<_}
 use mathlib.Core.Bool.{Bool, true, false, cond}
 use mathlib.Core.List.{List, [], _∷_, _++_}
+use mathlib.Core.Logic.{_⊎_, inl, inr}
 use mathlib.Core.Path.{_≡_, refl, sym, ap, _∙_}
 use native.Mathlib.Omega.{arith}
 use lib.Dec.{T, eqb}
-use lib.ListN.{length, drop}
-use Rattle.logic.specs.declared.Sign.{Sign}
-use Rattle.logic.specs.Syntax.{Atom, Literal, lit, Clause}
-use Rattle.logic.specs.Terms.{termsOf}
-use Rattle.logic.specs.Each.{termsWidth, width}
+use lib.ListN.{length, drop, drop-of-length-le}
+use Rattle.logic.specs.Syntax.{Literal, lit, Clause}
+use Rattle.logic.specs.Each.{width}
 use Rattle.logic.specs.Fill.{Substitution, fillLiteral, fillClause}
 use Rattle.logic.proofs.Both.{left, right}
 use Rattle.reader.specs.Words.{bytes}
 use Rattle.reader.specs.Write.{word, putTerm, putLiteral, putLiterals}
-use Rattle.reader.specs.Form.{formedAtom, formedLiteral, formedClause}
+use Rattle.reader.specs.Form.{formedLiteral, formedClause}
 use Rattle.reader.specs.Read.{Parsed, bad, got, after, strip}
 use Rattle.reader.specs.Places.{endOf}
-use Rattle.reader.specs.Access.{entryOf}
+use Rattle.reader.specs.Access.{skipItem, entryOf}
 use Rattle.reader.proofs.Positions.{strip-tail, then-end}
 use Rattle.reader.proofs.Plain.{in-front, literal-plain}
 use Rattle.reader.proofs.Nesting.{skip-literal}
 use Rattle.reader.proofs.Heads.{strip-same}
+use Rattle.rules.specs.declared.compare.Ends.{Ends}
 use Rattle.rules.specs.Filled.{fillItem, replacing, matches, endsOf}
 use Rattle.rules.specs.Shapes.{stripAt, skipAt}
-use Rattle.rules.specs.Claims.{filledAt, keptAt, othersFrom}
+use Rattle.rules.specs.Claims.{keptAt, onceAt, othersFrom}
 use Rattle.rules.proofs.Filling.{after-it, fill-literal}
-use Rattle.rules.proofs.Placing.{Stands, strip-stands, skip-stands}
+use Rattle.rules.proofs.Placing.{Stands, strip-stands, skip-stands, past-strip, none-past}
+use Rattle.rules.proofs.Walk.{fill-empty}
 
 -- One word after another.
 strip-append : (v w bs : List ℕ) → strip (v ++ w) bs ≡ after (strip v bs) (λ _. strip w)
@@ -57,13 +58,11 @@ abbrev pub Entries : List ℕ → List ℕ → Substitution → ℕ → Type 0
 Entries line starts σ w = (v : ℕ) → v < w → entryOf line starts v ≡ putTerm (σ v) []
 
 module _ (p line starts : List ℕ) (σ : Substitution) (w : ℕ) (entry : Entries line starts σ w) where
-  pub literal-claimed : {at : ℕ} (g : Sign) (x : Atom) (rest : List ℕ) (pos : ℕ) → Stands p at (putLiteral (lit g x) rest) → T (formedAtom 16 x) → termsWidth (termsOf x) ≤ w →
-      filledAt p at line starts pos ≡ stripAt line (putLiteral (fillLiteral σ (lit g x)) []) pos
-  unfolding filledAt stripAt replacing
-  literal-claimed g x rest pos s f h =
-      ap (λ q. endsOf p line (matches q (drop pos line)) .pos)
-      (ap (fillItem (replacing line starts 0 [] 0 starts) 19) (s .bytes-there) ∙ fill-literal (replacing line starts 0 [] 0 starts) σ w 16 entry g x f h rest (after-it (omega arith)))
-      ∙ match-place p line (putLiteral (fillLiteral σ (lit g x)) []) rest (drop pos line)
+  filled-literal : {at : ℕ} (l : Literal) (rest : List ℕ) → Stands p at (putLiteral l rest) → T (formedLiteral 16 l) → width (l ∷ []) ≤ w →
+      fillItem (replacing line starts 0 [] 0 starts) 19 (drop at p) ≡ got (putLiteral (fillLiteral σ l) []) rest
+  unfolding replacing formedLiteral width
+  filled-literal (lit g x) rest s f h =
+      ap (fillItem (replacing line starts 0 [] 0 starts) 19) (s .bytes-there) ∙ fill-literal (replacing line starts 0 [] 0 starts) σ w 16 entry g x f (omega arith) rest (after-it (omega arith))
 
 -- A clause's literals from literal n on, without literal d.
 unfoldable pub withoutFrom : ℕ → ℕ → Clause → Clause
@@ -93,32 +92,71 @@ unfolding width
 width-parts (lit g x) c w h = (omega arith, omega arith)
 
 module _ (p line starts : List ℕ) (σ : Substitution) (w : ℕ) (entry : Entries line starts σ w) where
-  kept-claimed : {at : ℕ} (l : Literal) (rest : List ℕ) (pos b : ℕ) (x : List ℕ) → Stands p at (putLiteral l rest) → T (formedLiteral 16 l) → width (l ∷ []) ≤ w →
-      stripAt line (32 ∷ putLiteral (fillLiteral σ l) (b ∷ x)) pos ≡ stripAt line (b ∷ x) (keptAt p at false line starts pos)
-  unfolding keptAt formedLiteral width
-  kept-claimed (lit g y) rest pos b x s f h =
-      spaced-literal line (fillLiteral σ (lit g y)) pos b x ∙ ap (stripAt line (b ∷ x)) (sym (literal-claimed p line starts σ w entry g y rest (stripAt line (bytes " ") pos) s f (omega arith)))
+  -- From past the ends, nothing is found.
+  lost-kept : keptAt p (length p + 1) line starts (length line + 1) ≡ record { at = length p + 1; pos = length line + 1 }
+  unfolding keptAt endsOf matches
+  lost-kept = rw (drop-of-length-le p {i = length p + 1} (omega arith), fill-empty (replacing line starts 0 [] 0 starts) 19)
 
-  -- One literal, dropped or kept, and those after it.
-  one-more : (dropped n : ℕ) {begin : ℕ} (l : Literal) (c : Clause) (rest : List ℕ) (pos b : ℕ) (x : List ℕ) (next : ℕ → ℕ) → Stands p begin (putLiteral l rest) → T (formedLiteral 16 l) → width (l ∷ []) ≤ w →
-      ((pos : ℕ) → stripAt line (putLiterals (fillClause σ (withoutFrom (n + 1) dropped c)) (b ∷ x)) pos ≡ stripAt line (b ∷ x) (next pos)) → (e : Bool) → eqb n dropped ≡ e →
-      stripAt line (putLiterals (fillClause σ (cond e (withoutFrom (n + 1) dropped c) (l ∷ withoutFrom (n + 1) dropped c))) (b ∷ x)) pos ≡
-      stripAt line (b ∷ x) (next (keptAt p begin e line starts pos))
-  unfolding putLiterals fillClause keptAt
-  one-more dropped n l c rest pos b x next s f h others true e = others pos
-  one-more dropped n {begin} l c rest pos b x next s f h others false e =
-      let o = literals-open (fillClause σ (withoutFrom (n + 1) dropped c)) b x in
-      ap (λ z. stripAt line (32 ∷ putLiteral (fillLiteral σ l) z) pos) (o .2)
-      ∙ (kept-claimed l rest pos (o .0) (o .1) s f h
-      ∙ (ap (λ z. stripAt line z (keptAt p begin false line starts pos)) (sym (o .2)) ∙ others (keptAt p begin false line starts pos)))
+  lost-others : (dropped k n : ℕ) → othersFrom p dropped line starts k n (length p + 1) (length line + 1) ≡ length line + 1
+  unfolding othersFrom onceAt skipAt skipItem strip
+  lost-others dropped zero n = refl
+  lost-others dropped (suc k) n = rw (past-strip p 32 []) (go (eqb n dropped) (lost-others dropped k (n + 1)))
+    where
+      go : (e : Bool) → othersFrom p dropped line starts k (n + 1) (length p + 1) (length line + 1) ≡ length line + 1 →
+          othersFrom p dropped line starts k (n + 1) (onceAt p (length p + 1) e line starts (length line + 1) .at) (onceAt p (length p + 1) e line starts (length line + 1) .pos) ≡ length line + 1
+      go true h = rw (none-past p skipItem refl) h
+      go false h = rw lost-kept h
+
+  -- A literal kept: past it in the line, and, if it stands there, past it in p.
+  module _ {at : ℕ} (l : Literal) (rest : List ℕ) (pos : ℕ) (s : Stands p at (putLiteral l rest)) (f : T (formedLiteral 16 l)) (h : width (l ∷ []) ≤ w) where
+    kept-ends : keptAt p at line starts pos ≡ endsOf p line (matches (got (putLiteral (fillLiteral σ l) []) rest) (drop (stripAt line (bytes " ") pos) line))
+    unfolding keptAt
+    kept-ends = ap (λ q. endsOf p line (matches q (drop (stripAt line (bytes " ") pos) line))) (filled-literal p line starts σ w entry l rest s f h)
+
+    kept-place : keptAt p at line starts pos .pos ≡ stripAt line (putLiteral (fillLiteral σ l) []) (stripAt line (bytes " ") pos)
+    unfolding stripAt
+    kept-place = ap (λ (e : Ends). e .pos) kept-ends ∙ match-place p line (putLiteral (fillLiteral σ l) []) rest (drop (stripAt line (bytes " ") pos) line)
+
+    past-it : Stands p (length p - length rest) rest
+    unfolding skipAt endOf
+    past-it = let t = skip-stands p s (skip-literal l rest) in rw (s .bytes-there, skip-literal l rest) at t
+
+    kept-on : Stands p (keptAt p at line starts pos .at) rest ⊎ (keptAt p at line starts pos ≡ record { at = length p + 1; pos = length line + 1 })
+    unfolding matches endsOf
+    kept-on = rw kept-ends (go (strip (putLiteral (fillLiteral σ l) []) (drop (stripAt line (bytes " ") pos) line)))
+      where
+        go : (q : Parsed (Unit {0})) → Stands p (endsOf p line (after q (λ _ left. got left rest)) .at) rest ⊎ (endsOf p line (after q (λ _ left. got left rest)) ≡ record { at = length p + 1; pos = length line + 1 })
+        go bad = inr refl
+        go (got u left) = inl past-it
+
+  -- What follows a literal, from a place in p where it stands, or from past the ends.
+  module _ (dropped n : ℕ) (c : Clause) (rest : List ℕ) (b : ℕ) (x : List ℕ)
+      (others : (at pos : ℕ) → Stands p at (putLiterals c (word ")" rest)) → stripAt line (putLiterals (fillClause σ (withoutFrom n dropped c)) (b ∷ x)) pos ≡ stripAt line (b ∷ x) (othersFrom p dropped line starts (length c) n at pos)) where
+    on : (e : Ends) → Stands p (e .at) (putLiterals c (word ")" rest)) ⊎ (e ≡ record { at = length p + 1; pos = length line + 1 }) →
+        stripAt line (putLiterals (fillClause σ (withoutFrom n dropped c)) (b ∷ x)) (e .pos) ≡ stripAt line (b ∷ x) (othersFrom p dropped line starts (length c) n (e .at) (e .pos))
+    on e (inl t) = others (e .at) (e .pos) t
+    on e (inr z) =
+        let o = literals-open (fillClause σ (withoutFrom n dropped c)) b x in
+        rw (z, o .2, lost-others dropped (length c) n, past-strip line (o .0) (o .1), past-strip line b x)
+
+    -- One literal, dropped or kept, and those after it.
+    one-more : {begin : ℕ} (l : Literal) (pos : ℕ) → Stands p begin (putLiteral l (putLiterals c (word ")" rest))) → T (formedLiteral 16 l) → width (l ∷ []) ≤ w → (e : Bool) →
+        stripAt line (putLiterals (fillClause σ (cond e (withoutFrom n dropped c) (l ∷ withoutFrom n dropped c))) (b ∷ x)) pos ≡
+        stripAt line (b ∷ x) (othersFrom p dropped line starts (length c) n (onceAt p begin e line starts pos .at) (onceAt p begin e line starts pos .pos))
+    unfolding putLiterals fillClause onceAt
+    one-more l pos s f h true = others _ pos (skip-stands p s (skip-literal l (putLiterals c (word ")" rest))))
+    one-more {begin} l pos s f h false =
+        let o = literals-open (fillClause σ (withoutFrom n dropped c)) b x in
+        ap (λ z. stripAt line (32 ∷ putLiteral (fillLiteral σ l) z) pos) (o .2)
+        ∙ (spaced-literal line (fillLiteral σ l) pos (o .0) (o .1)
+        ∙ (ap (stripAt line (o .0 ∷ o .1)) (sym (kept-place l (putLiterals c (word ")" rest)) pos s f h))
+        ∙ (ap (λ z. stripAt line z (keptAt p begin line starts pos .pos)) (sym (o .2)) ∙ on (keptAt p begin line starts pos) (kept-on l (putLiterals c (word ")" rest)) pos s f h))))
 
   pub others-claimed : (dropped : ℕ) {at : ℕ} (n : ℕ) (c : Clause) (rest : List ℕ) (pos b : ℕ) (x : List ℕ) → Stands p at (putLiterals c (word ")" rest)) → T (formedClause 16 c) → width c ≤ w →
       stripAt line (putLiterals (fillClause σ (withoutFrom n dropped c)) (b ∷ x)) pos ≡ stripAt line (b ∷ x) (othersFrom p dropped line starts (length c) n at pos)
   unfolding putLiterals fillClause withoutFrom othersFrom formedClause width
   others-claimed dropped n [] rest pos b x s f h = refl
-  others-claimed dropped {at} n (l ∷ c) rest pos b x s f h =
-      let f₁ = left (formedLiteral 16 l) (formedClause 16 c) f in
+  others-claimed dropped n (l ∷ c) rest pos b x s f h =
       let f₂ = right (formedLiteral 16 l) (formedClause 16 c) f in
-      let begins = strip-stands p (bytes " ") s (strip-same (bytes " ") (putLiteral l (putLiterals c (word ")" rest)))) in
-      let ends = skip-stands p begins (skip-literal l (putLiterals c (word ")" rest))) in
-      one-more dropped n l c (putLiterals c (word ")" rest)) pos b x (othersFrom p dropped line starts (length c) (n + 1) (skipAt p (stripAt p (bytes " ") at))) begins f₁ (width-parts l c w h .0) (λ pos. others-claimed dropped (n + 1) c rest pos b x ends f₂ (width-parts l c w h .1)) (eqb n dropped) refl
+      one-more dropped (n + 1) c rest b x (λ at pos t. others-claimed dropped (n + 1) c rest pos b x t f₂ (width-parts l c w h .1))
+      l pos (strip-stands p (bytes " ") s (strip-same (bytes " ") (putLiteral l (putLiterals c (word ")" rest))))) (left (formedLiteral 16 l) (formedClause 16 c) f) (width-parts l c w h .0) (eqb n dropped)

@@ -5,6 +5,7 @@ use mathlib.Core.List.{List, []}
 use lib.Dec.{eqb}
 use lib.ListN.{length, drop}
 use Rattle.reader.specs.Words.{bytes}
+use Rattle.rules.specs.declared.compare.Ends.{Ends}
 use Rattle.rules.specs.Filled.{fillItem, replacing, matches, endsOf}
 use Rattle.rules.specs.Shapes.{stripAt, skipAt}
 
@@ -31,17 +32,22 @@ unfoldable pub linkedAt : List ℕ → List ℕ → ℕ → List ℕ → List �
 linkedAt head p x line starts q y others pos =
     stripAt line (bytes "))") (filledAt q y line others (stripAt line (bytes " ") (filledAt p x line starts (stripAt line head pos))))
 
--- The same after a space, unless the literal is dropped.
-unfoldable pub keptAt : List ℕ → ℕ → Bool → List ℕ → List ℕ → ℕ → ℕ
-keptAt p at true line starts pos = pos
-keptAt p at false line starts pos = filledAt p at line starts (stripAt line (bytes " ") pos)
+-- The literal at `at` after a space: the places past it, in p and in the line.
+unfoldable pub keptAt : List ℕ → ℕ → List ℕ → List ℕ → ℕ → Ends
+keptAt p at line starts pos =
+    endsOf p line (matches (fillItem (replacing line starts 0 [] 0 starts) itemDepth (drop at p)) (drop (stripAt line (bytes " ") pos) line))
+
+-- One literal: a dropped one is passed, another is kept.
+unfoldable pub onceAt : List ℕ → ℕ → Bool → List ℕ → List ℕ → ℕ → Ends
+onceAt p at true line starts pos = record { at = skipAt p at; pos = pos }
+onceAt p at false line starts pos = keptAt p at line starts pos
 
 -- The k literals from literal n on, which begins after a space at `at`, without the dropped one, each after a space.
 unfoldable pub othersFrom : List ℕ → ℕ → List ℕ → List ℕ → ℕ → ℕ → ℕ → ℕ → ℕ
 othersFrom p dropped line starts zero n at pos = pos
 othersFrom p dropped line starts (suc k) n at pos =
-    let begin = stripAt p (bytes " ") at in
-    othersFrom p dropped line starts k (n + 1) (skipAt p begin) (keptAt p begin (eqb n dropped) line starts pos)
+    let ends = onceAt p (stripAt p (bytes " ") at) (eqb n dropped) line starts pos in
+    othersFrom p dropped line starts k (n + 1) (ends .at) (ends .pos)
 
 -- All literals of a clause but one.
 unfoldable pub othersAt : List ℕ → ℕ → ℕ → List ℕ → List ℕ → ℕ → ℕ

@@ -1,4 +1,5 @@
 // Check 11: the claim is what the rule gives. Each function answers the place in the line past what it expects.
+use crate::compare::Ends;
 use crate::compare::expect;
 use reader::access::skip;
 use reader::words::word;
@@ -29,14 +30,23 @@ pub fn filled(p: &[u8], at: usize, line: &[u8], starts: &[usize], pos: usize) ->
     found.pos
 }
 
-// The literal at `at` after a space, unless it is dropped.
-fn kept(p: &[u8], at: usize, drop: bool, line: &[u8], starts: &[usize], pos: usize) -> usize
-    ensures { λ r. ⌜ r ≡ keptAt (now (p .entry)) at drop (now (line .entry)) (now (starts .entry)) pos ⌝ }
+// The literal at `at` after a space: the places past it, in p and in the line.
+fn kept(p: &[u8], at: usize, line: &[u8], starts: &[usize], pos: usize) -> Ends
+    ensures { λ r. ⌜ r ≡ keptAt (now (p .entry)) at (now (line .entry)) (now (starts .entry)) pos ⌝ }
 {
-    if drop {
-        return pos;
-    }
-    filled(p, at, line, starts, word(line, pos, b" "))
+    expect(
+        p,
+        at,
+        DEPTH,
+        line,
+        starts,
+        p.len(),
+        &p[0..0],
+        0,
+        starts,
+        line,
+        word(line, pos, b" "),
+    )
 }
 
 // The first `count` literals of a clause but one, filled, each after a space.
@@ -55,9 +65,17 @@ pub fn others(
     let mut n = 0;
     while n < count {
         let begin = word(p, at, b" ");
-        place = kept(p, begin, n == dropped, line, starts, place);
-        at = skip(p, begin);
+        let drop = n == dropped;
         n += 1;
+        if drop {
+            if n < count {
+                at = skip(p, begin);
+            }
+        } else {
+            let found = kept(p, begin, line, starts, place);
+            at = found.at;
+            place = found.pos;
+        }
     }
     place
 }

@@ -47,7 +47,10 @@ fn bare(
     let o = word(p, x, h);
     let u = word(q, y, h);
     let none = within(p, word(p, result(p, o), b"none"));
-    both(none, calls(within(q, u), p, o, line, starts, q, u, others))
+    if none {
+        return calls(within(q, u), p, o, line, starts, q, u, others);
+    }
+    false
 }
 
 // The atom at y of q covers the one at x of p.
@@ -62,10 +65,10 @@ pub fn covers(
 ) -> bool
     ensures { λ r. ⌜ r ≡ coversAt (now (p .entry)) x (now (line .entry)) (now (starts .entry)) (now (q .entry)) y (now (others .entry)) ⌝ }
 {
-    either(
-        agree(p, x, line, starts, q, y, others),
-        bare(p, x, line, starts, q, y, others),
-    )
+    if agree(p, x, line, starts, q, y, others) {
+        return true;
+    }
+    bare(p, x, line, starts, q, y, others)
 }
 
 // The atom of a negative literal.

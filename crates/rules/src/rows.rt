@@ -97,17 +97,16 @@ pub fn calls(
 ) -> bool
     ensures { λ r. ⌜ r ≡ callsAt arrows (now (p .entry)) x (now (line .entry)) (now (starts .entry)) (now (q .entry)) y (now (others .entry)) ⌝ }
 {
-    let u = next(p, x);
-    let v = next(q, y);
-    let objects = both(arrows, agree(p, x, line, starts, q, y, others));
-    let methods = agree(p, u, line, starts, q, v, others);
-    both(
-        objects,
-        both(
-            methods,
-            agree(p, next(p, u), line, starts, q, next(q, v), others),
-        ),
-    )
+    if arrows {
+        if agree(p, x, line, starts, q, y, others) {
+            let u = next(p, x);
+            let v = next(q, y);
+            if agree(p, u, line, starts, q, v, others) {
+                return agree(p, next(p, u), line, starts, q, next(q, v), others);
+            }
+        }
+    }
+    false
 }
 
 // Both literals have the head of sv, or neither has.

@@ -1,6 +1,11 @@
-use mathlib.Core.Path.{refl}
-use Rattle.rules.specs.Covering.{bareAt}
-use Rattle.rules.specs.Shapes.{stripAt}
+use mathlib.Core.Path.{_≡_, refl, sym, _∙_}
+use mathlib.Core.Bool.{true, false}
+use Rattle.rules.specs.Covering.{headAt, bareAt}
+use Rattle.rules.specs.Shapes.{stripAt, resultAt}
+use Rattle.rules.specs.Rows.{within}
+use Rattle.reader.specs.Words.{bytes}
+use denote.Ref.{now}
+use borrow.Author.Needs.{needs}
 use Rattle.rules.proofs.covering.bare.Statement.{statement}
 use Rattle.rules.proofs.covering.bare.Tie as tie
 use Rattle.rules.proofs.covering.bare.Reads as reads
@@ -10,7 +15,6 @@ use Rattle.rules.proofs.covering.head.Reads as head-reads
 use Rattle.rules.proofs.rows.calls.Reads as calls-reads
 use Rattle.rules.proofs.rows.within.Reads as within-reads
 use Rattle.rules.proofs.shapes.result.Reads as result-reads
-use Rattle.rules.proofs.uses.both.Reads as both-reads
 
 -- src/covering.rt:46:9
 head-requires : tie.Need-head-requires
@@ -40,22 +44,33 @@ word-requires-3 c κs = tt
 within-requires : tie.Need-within-requires
 within-requires c κs = tt
 
--- src/covering.rt:50:22
+-- src/covering.rt:51:22
 within-requires-2 : tie.Need-within-requires-2
 within-requires-2 c κs = tt
 
--- src/covering.rt:50:16
+-- src/covering.rt:51:9
 calls-requires : tie.Need-calls-requires
 calls-requires c κs = tt
 
--- src/covering.rt:50:5
-both-requires : tie.Need-both-requires
-both-requires c κs = tt
-
--- src/covering.rt:35:1
+-- src/covering.rt:51:9
 returns : tie.Need-returns
 unfolding bareAt stripAt
-returns c = rw (c .both .ensures, c .before .calls .ensures, c .before .before .within2 .ensures, c .before .before .before .within .ensures, c .before .before .before .before .word3 .ensures, c .before .before .before .before .before .before .result .ensures, c .before .before .before .before .before .before .before .word2 .ensures, c .before .before .before .before .before .before .before .before .word .ensures, c .before .before .before .before .before .before .before .before .before .head .ensures)
+returns c =
+    let a = c .before .before .before .before .before .before .before .before .before .before .before .before .before .before .before .args in
+    let o = stripAt (now (a .p)) (headAt (now (a .p)) (a .x)) (a .x) in
+    let none : within (now (a .p)) (stripAt (now (a .p)) (bytes "none") (resultAt (now (a .p)) o)) ≡ true =
+    sym (rw (c .before .before .before .before .word3 .ensures, c .before .before .before .before .before .before .result .ensures, c .before .before .before .before .before .before .before .before .word .ensures, c .before .before .before .before .before .before .before .before .before .head .ensures) at (c .before .before .before .within .ensures)) ∙ c .before .before .if1 .taken in
+    rw none (rw (c .before .within2 .ensures, c .before .before .before .before .before .before .before .word2 .ensures, c .before .before .before .before .before .before .before .before .word .ensures, c .before .before .before .before .before .before .before .before .before .head .ensures) at (c .calls .ensures))
+
+-- src/covering.rt:35:1
+returns-2 : tie.Need-returns-2
+unfolding bareAt stripAt
+returns-2 c =
+    let a = c .before .before .before .before .before .before .before .before .before .before .before .before .before .args in
+    let o = stripAt (now (a .p)) (headAt (now (a .p)) (a .x)) (a .x) in
+    let none : within (now (a .p)) (stripAt (now (a .p)) (bytes "none") (resultAt (now (a .p)) o)) ≡ false =
+    sym (rw (c .before .before .word3 .ensures, c .before .before .before .before .result .ensures, c .before .before .before .before .before .before .word .ensures, c .before .before .before .before .before .before .before .head .ensures) at (c .before .within .ensures)) ∙ c .if1 .left in
+    rw none
 
 pub bare-spec : {M : Type 1} → statement M
 bare-spec =
@@ -70,5 +85,5 @@ bare-spec =
     within-requires
     within-requires-2
     calls-requires
-    both-requires
-    returns)
+    returns
+    returns-2)
