@@ -91,69 +91,69 @@ width-parts : (l : Literal) (c : Clause) (w : ℕ) → width (l ∷ c) ≤ w →
 unfolding width
 width-parts (lit g x) c w h = (omega arith, omega arith)
 
-module _ (p line starts : List ℕ) (σ : Substitution) (w : ℕ) (entry : Entries line starts σ w) where
+module _ (p line starts target : List ℕ) (σ : Substitution) (w : ℕ) (entry : Entries line starts σ w) where
   -- From past the ends, nothing is found.
-  lost-kept : keptAt p (length p + 1) line starts (length line + 1) ≡ record { at = length p + 1; pos = length line + 1 }
+  lost-kept : keptAt p (length p + 1) line starts target (length target + 1) ≡ record { at = length p + 1; pos = length target + 1 }
   unfolding keptAt endsOf matches
   lost-kept = rw (drop-of-length-le p {i = length p + 1} (omega arith), fill-empty (replacing line starts 0 [] 0 starts) 19)
 
-  lost-others : (dropped k n : ℕ) → othersFrom p dropped line starts k n (length p + 1) (length line + 1) ≡ length line + 1
+  lost-others : (dropped k n : ℕ) → othersFrom p dropped line starts target k n (length p + 1) (length target + 1) ≡ length target + 1
   unfolding othersFrom onceAt skipAt skipItem strip
   lost-others dropped zero n = refl
   lost-others dropped (suc k) n = rw (past-strip p 32 []) (go (eqb n dropped) (lost-others dropped k (n + 1)))
     where
-      go : (e : Bool) → othersFrom p dropped line starts k (n + 1) (length p + 1) (length line + 1) ≡ length line + 1 →
-          othersFrom p dropped line starts k (n + 1) (onceAt p (length p + 1) e line starts (length line + 1) .at) (onceAt p (length p + 1) e line starts (length line + 1) .pos) ≡ length line + 1
+      go : (e : Bool) → othersFrom p dropped line starts target k (n + 1) (length p + 1) (length target + 1) ≡ length target + 1 →
+          othersFrom p dropped line starts target k (n + 1) (onceAt p (length p + 1) e line starts target (length target + 1) .at) (onceAt p (length p + 1) e line starts target (length target + 1) .pos) ≡ length target + 1
       go true h = rw (none-past p skipItem refl) h
       go false h = rw lost-kept h
 
   -- A literal kept: past it in the line, and, if it stands there, past it in p.
   module _ {at : ℕ} (l : Literal) (rest : List ℕ) (pos : ℕ) (s : Stands p at (putLiteral l rest)) (f : T (formedLiteral 16 l)) (h : width (l ∷ []) ≤ w) where
-    kept-ends : keptAt p at line starts pos ≡ endsOf p line (matches (got (putLiteral (fillLiteral σ l) []) rest) (drop (stripAt line (bytes " ") pos) line))
+    kept-ends : keptAt p at line starts target pos ≡ endsOf p target (matches (got (putLiteral (fillLiteral σ l) []) rest) (drop (stripAt target (bytes " ") pos) target))
     unfolding keptAt
-    kept-ends = ap (λ q. endsOf p line (matches q (drop (stripAt line (bytes " ") pos) line))) (filled-literal p line starts σ w entry l rest s f h)
+    kept-ends = ap (λ q. endsOf p target (matches q (drop (stripAt target (bytes " ") pos) target))) (filled-literal p line starts σ w entry l rest s f h)
 
-    kept-place : keptAt p at line starts pos .pos ≡ stripAt line (putLiteral (fillLiteral σ l) []) (stripAt line (bytes " ") pos)
+    kept-place : keptAt p at line starts target pos .pos ≡ stripAt target (putLiteral (fillLiteral σ l) []) (stripAt target (bytes " ") pos)
     unfolding stripAt
-    kept-place = ap (λ (e : Ends). e .pos) kept-ends ∙ match-place p line (putLiteral (fillLiteral σ l) []) rest (drop (stripAt line (bytes " ") pos) line)
+    kept-place = ap (λ (e : Ends). e .pos) kept-ends ∙ match-place p target (putLiteral (fillLiteral σ l) []) rest (drop (stripAt target (bytes " ") pos) target)
 
     past-it : Stands p (length p - length rest) rest
     unfolding skipAt endOf
     past-it = let t = skip-stands p s (skip-literal l rest) in rw (s .bytes-there, skip-literal l rest) at t
 
-    kept-on : Stands p (keptAt p at line starts pos .at) rest ⊎ (keptAt p at line starts pos ≡ record { at = length p + 1; pos = length line + 1 })
+    kept-on : Stands p (keptAt p at line starts target pos .at) rest ⊎ (keptAt p at line starts target pos ≡ record { at = length p + 1; pos = length target + 1 })
     unfolding matches endsOf
-    kept-on = rw kept-ends (go (strip (putLiteral (fillLiteral σ l) []) (drop (stripAt line (bytes " ") pos) line)))
+    kept-on = rw kept-ends (go (strip (putLiteral (fillLiteral σ l) []) (drop (stripAt target (bytes " ") pos) target)))
       where
-        go : (q : Parsed (Unit {0})) → Stands p (endsOf p line (after q (λ _ left. got left rest)) .at) rest ⊎ (endsOf p line (after q (λ _ left. got left rest)) ≡ record { at = length p + 1; pos = length line + 1 })
+        go : (q : Parsed (Unit {0})) → Stands p (endsOf p target (after q (λ _ left. got left rest)) .at) rest ⊎ (endsOf p target (after q (λ _ left. got left rest)) ≡ record { at = length p + 1; pos = length target + 1 })
         go bad = inr refl
         go (got u left) = inl past-it
 
   -- What follows a literal, from a place in p where it stands, or from past the ends.
   module _ (dropped n : ℕ) (c : Clause) (rest : List ℕ) (b : ℕ) (x : List ℕ)
-      (others : (at pos : ℕ) → Stands p at (putLiterals c (word ")" rest)) → stripAt line (putLiterals (fillClause σ (withoutFrom n dropped c)) (b ∷ x)) pos ≡ stripAt line (b ∷ x) (othersFrom p dropped line starts (length c) n at pos)) where
-    on : (e : Ends) → Stands p (e .at) (putLiterals c (word ")" rest)) ⊎ (e ≡ record { at = length p + 1; pos = length line + 1 }) →
-        stripAt line (putLiterals (fillClause σ (withoutFrom n dropped c)) (b ∷ x)) (e .pos) ≡ stripAt line (b ∷ x) (othersFrom p dropped line starts (length c) n (e .at) (e .pos))
+      (others : (at pos : ℕ) → Stands p at (putLiterals c (word ")" rest)) → stripAt target (putLiterals (fillClause σ (withoutFrom n dropped c)) (b ∷ x)) pos ≡ stripAt target (b ∷ x) (othersFrom p dropped line starts target (length c) n at pos)) where
+    on : (e : Ends) → Stands p (e .at) (putLiterals c (word ")" rest)) ⊎ (e ≡ record { at = length p + 1; pos = length target + 1 }) →
+        stripAt target (putLiterals (fillClause σ (withoutFrom n dropped c)) (b ∷ x)) (e .pos) ≡ stripAt target (b ∷ x) (othersFrom p dropped line starts target (length c) n (e .at) (e .pos))
     on e (inl t) = others (e .at) (e .pos) t
     on e (inr z) =
         let o = literals-open (fillClause σ (withoutFrom n dropped c)) b x in
-        rw (z, o .2, lost-others dropped (length c) n, past-strip line (o .0) (o .1), past-strip line b x)
+        rw (z, o .2, lost-others dropped (length c) n, past-strip target (o .0) (o .1), past-strip target b x)
 
     -- One literal, dropped or kept, and those after it.
     one-more : {begin : ℕ} (l : Literal) (pos : ℕ) → Stands p begin (putLiteral l (putLiterals c (word ")" rest))) → T (formedLiteral 16 l) → width (l ∷ []) ≤ w → (e : Bool) →
-        stripAt line (putLiterals (fillClause σ (cond e (withoutFrom n dropped c) (l ∷ withoutFrom n dropped c))) (b ∷ x)) pos ≡
-        stripAt line (b ∷ x) (othersFrom p dropped line starts (length c) n (onceAt p begin e line starts pos .at) (onceAt p begin e line starts pos .pos))
+        stripAt target (putLiterals (fillClause σ (cond e (withoutFrom n dropped c) (l ∷ withoutFrom n dropped c))) (b ∷ x)) pos ≡
+        stripAt target (b ∷ x) (othersFrom p dropped line starts target (length c) n (onceAt p begin e line starts target pos .at) (onceAt p begin e line starts target pos .pos))
     unfolding putLiterals fillClause onceAt
     one-more l pos s f h true = others _ pos (skip-stands p s (skip-literal l (putLiterals c (word ")" rest))))
     one-more {begin} l pos s f h false =
         let o = literals-open (fillClause σ (withoutFrom n dropped c)) b x in
-        ap (λ z. stripAt line (32 ∷ putLiteral (fillLiteral σ l) z) pos) (o .2)
-        ∙ (spaced-literal line (fillLiteral σ l) pos (o .0) (o .1)
-        ∙ (ap (stripAt line (o .0 ∷ o .1)) (sym (kept-place l (putLiterals c (word ")" rest)) pos s f h))
-        ∙ (ap (λ z. stripAt line z (keptAt p begin line starts pos .pos)) (sym (o .2)) ∙ on (keptAt p begin line starts pos) (kept-on l (putLiterals c (word ")" rest)) pos s f h))))
+        ap (λ z. stripAt target (32 ∷ putLiteral (fillLiteral σ l) z) pos) (o .2)
+        ∙ (spaced-literal target (fillLiteral σ l) pos (o .0) (o .1)
+        ∙ (ap (stripAt target (o .0 ∷ o .1)) (sym (kept-place l (putLiterals c (word ")" rest)) pos s f h))
+        ∙ (ap (λ z. stripAt target z (keptAt p begin line starts target pos .pos)) (sym (o .2)) ∙ on (keptAt p begin line starts target pos) (kept-on l (putLiterals c (word ")" rest)) pos s f h))))
 
   pub others-claimed : (dropped : ℕ) {at : ℕ} (n : ℕ) (c : Clause) (rest : List ℕ) (pos b : ℕ) (x : List ℕ) → Stands p at (putLiterals c (word ")" rest)) → T (formedClause 16 c) → width c ≤ w →
-      stripAt line (putLiterals (fillClause σ (withoutFrom n dropped c)) (b ∷ x)) pos ≡ stripAt line (b ∷ x) (othersFrom p dropped line starts (length c) n at pos)
+      stripAt target (putLiterals (fillClause σ (withoutFrom n dropped c)) (b ∷ x)) pos ≡ stripAt target (b ∷ x) (othersFrom p dropped line starts target (length c) n at pos)
   unfolding putLiterals fillClause withoutFrom othersFrom formedClause width
   others-claimed dropped n [] rest pos b x s f h = refl
   others-claimed dropped n (l ∷ c) rest pos b x s f h =

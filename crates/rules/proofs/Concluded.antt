@@ -57,22 +57,21 @@ unfolding endOf
 ends-there line ws bs e = rw (e, ap (strip ws) (sym (append-nil ws)) ∙ strip-same ws []) (omega arith)
 
 module _ {line : List ℕ} {pos : ℕ} {claim : Clause} (at : ClaimAt line pos claim) (c : Clause) (over : Over formedNumber formedSymbol c) where
-  claim-only : stripAt line (putClause c (word ")" [])) pos ≡ length line → c ≡ claim
+  claim-only : stripAt (drop pos line) (putClause c (word ")" [])) 0 ≡ length (drop pos line) → c ≡ claim
   unfolding stripAt fromClause putClause
   claim-only h =
       let e : drop pos line ≡ putClause claim (word ")" []) = at .stands .bytes-there in
-      let n : length (drop pos line) ≡ length line - pos = length-drop pos line in
       let k : length (drop pos line) ≡ suc _ = ap length e in
-      clause-bytes c claim (word ")" []) (word ")" []) over (at .over) (sym (ends-only line (putClause c (word ")" [])) (drop pos line) (omega arith) h) ∙ e) .0
+      clause-bytes c claim (word ")" []) (word ")" []) over (at .over) (sym (ends-only (drop pos line) (putClause c (word ")" [])) (drop pos line) (omega arith) h) ∙ e) .0
 
-  claim-there : c ≡ claim → stripAt line (putClause c (word ")" [])) pos ≡ length line
+  claim-there : c ≡ claim → stripAt (drop pos line) (putClause c (word ")" [])) 0 ≡ length (drop pos line)
   unfolding stripAt fromClause
-  claim-there h = ends-there line (putClause c (word ")" [])) (drop pos line) (at .stands .bytes-there ∙ ap (λ d. putClause d (word ")" [])) (sym h))
+  claim-there h = ends-there (drop pos line) (putClause c (word ")" [])) (drop pos line) (at .stands .bytes-there ∙ ap (λ d. putClause d (word ")" [])) (sym h))
 
-  pub claim-exactly : cond (eqb (stripAt line (putClause c (word ")" [])) pos) (length line)) Passed WrongClaim ≡ ite (clause? c claim) Passed WrongClaim
+  pub claim-exactly : cond (eqb (stripAt (drop pos line) (putClause c (word ")" [])) 0) (length (drop pos line))) Passed WrongClaim ≡ ite (clause? c claim) Passed WrongClaim
   claim-exactly = go (clause? c claim)
     where
-      go : (d : Dec (c ≡ claim)) → cond (eqb (stripAt line (putClause c (word ")" [])) pos) (length line)) Passed WrongClaim ≡ ite d Passed WrongClaim
+      go : (d : Dec (c ≡ claim)) → cond (eqb (stripAt (drop pos line) (putClause c (word ")" [])) 0) (length (drop pos line))) Passed WrongClaim ≡ ite d Passed WrongClaim
       go (yes e) = rw (eq-eqb _ _ (claim-there e))
       go (no e) = rw (ne-eqb _ _ (λ h. e (claim-only h)))
 
@@ -81,38 +80,42 @@ unfolding putLiterals
 literals-append [] d rest = refl
 literals-append (l ∷ c) d rest = ap (λ x. word " " (putLiteral l x)) (literals-append c d rest)
 
--- What literals a walk over the line expects.
+-- What literals a walk expects.
 abbrev pub Expects : List ℕ → Clause → (ℕ → ℕ) → Type 0
-Expects line c walk = (pos b : ℕ) (x : List ℕ) → stripAt line (putLiterals c (b ∷ x)) pos ≡ stripAt line (b ∷ x) (walk pos)
+Expects target c walk = (pos b : ℕ) (x : List ℕ) → stripAt target (putLiterals c (b ∷ x)) pos ≡ stripAt target (b ∷ x) (walk pos)
 
-module _ (rule : Rule) (k : ℕ) (p : List ℕ) (n i x : ℕ) (line starts q : List ℕ) (m j y : ℕ) (others : List ℕ) (new a b : Clause)
-    (news : Expects line new (newAt rule k p x line starts q y others))
-    (firsts : Expects line a (othersAt p n (droppedAt (uses rule .b) p x i j) line starts))
-    (seconds : Expects line b (othersAt q m j line others)) where
-  claim-chain : (pos : ℕ) → stripAt line (putClause (new ++ (a ++ b)) (word ")" [])) pos ≡ claimAt rule k p n i x line starts q m j y others pos
+module _ (rule : Rule) (k : ℕ) (p : List ℕ) (n i x : ℕ) (line starts q : List ℕ) (m j y : ℕ) (others rest : List ℕ) (new a b : Clause)
+    (news : Expects rest new (newAt rule k p x line starts q y others rest))
+    (firsts : Expects rest a (othersAt p n (droppedAt (uses rule .b) p x i j) line starts rest))
+    (seconds : Expects rest b (othersAt q m j line others rest)) where
+  claim-chain : stripAt rest (putClause (new ++ (a ++ b)) (word ")" [])) 0 ≡ claimAt rule k p n i x line starts q m j y others rest
   unfolding putClause claimAt
-  claim-chain pos =
+  claim-chain =
       let o₃ = literals-open b 41 (41 ∷ []) in
       let o₂ = literals-open a (o₃ .0) (o₃ .1) in
       let o₁ = literals-open new (o₂ .0) (o₂ .1) in
-      let begin = stripAt line (bytes "(or") pos in
-      let first = newAt rule k p x line starts q y others begin in
-      let second = othersAt p n (droppedAt (uses rule .b) p x i j) line starts first in
-      ap (λ z. stripAt line (bytes "(or" ++ z) pos) (literals-append new (a ++ b) (41 ∷ 41 ∷ []) ∙ ap (putLiterals new) (literals-append a b (41 ∷ 41 ∷ []) ∙ (ap (putLiterals a) (o₃ .2) ∙ o₂ .2)) ∙ o₁ .2)
-      ∙ (strip-chain line (bytes "(or") (o₁ .0) (o₁ .1) pos
-      ∙ (ap (λ z. stripAt line z begin) (sym (o₁ .2))
+      let begin = stripAt rest (bytes "(or") 0 in
+      let first = newAt rule k p x line starts q y others rest begin in
+      let second = othersAt p n (droppedAt (uses rule .b) p x i j) line starts rest first in
+      ap (λ z. stripAt rest (bytes "(or" ++ z) 0) (literals-append new (a ++ b) (41 ∷ 41 ∷ []) ∙ ap (putLiterals new) (literals-append a b (41 ∷ 41 ∷ []) ∙ (ap (putLiterals a) (o₃ .2) ∙ o₂ .2)) ∙ o₁ .2)
+      ∙ (strip-chain rest (bytes "(or") (o₁ .0) (o₁ .1) 0
+      ∙ (ap (λ z. stripAt rest z begin) (sym (o₁ .2))
       ∙ (news begin (o₂ .0) (o₂ .1)
-      ∙ (ap (λ z. stripAt line z first) (sym (o₂ .2))
+      ∙ (ap (λ z. stripAt rest z first) (sym (o₂ .2))
       ∙ (firsts first (o₃ .0) (o₃ .1)
-      ∙ (ap (λ z. stripAt line z second) (sym (o₃ .2)) ∙ seconds second 41 (41 ∷ [])))))))
+      ∙ (ap (λ z. stripAt rest z second) (sym (o₃ .2)) ∙ seconds second 41 (41 ∷ [])))))))
 
-  -- Checks 9 and 10 as the table says, and the claim: then the answer is that of the conclusion.
-  pub concluded : (g : Agreement) {pos : ℕ} {claim : Clause} → rowAt rule k p x line starts q y others ≡ judgedOf (concludes g new) →
-      ClaimAt line pos claim → Over formedNumber formedSymbol (new ++ (a ++ b)) →
-      thenClaim (rowAt rule k p x line starts q y others) (eqb (claimAt rule k p n i x line starts q m j y others pos) (length line)) ≡ judgeConclusion (concludes g (new ++ (a ++ b))) claim
-  unfolding judgedOf judgeConclusion thenClaim
-  concluded g {pos} {claim} row at over = rw (row, ← claim-chain pos) (go (holds? g) _ _ (claim-exactly at (new ++ (a ++ b)) over))
-    where
-      go : (d : Dec (Holds g)) (v : Judged) (t : Bool) → cond t Passed WrongClaim ≡ v → thenClaim (ite d Passed Disagrees) t ≡ ite d v Disagrees
-      go (yes h) v t e = e
-      go (no h) v t e = refl
+-- Checks 9 and 10 as the table says, and the claim: then the answer is that of the conclusion.
+pub concluded : (rule : Rule) (k : ℕ) (p : List ℕ) (n i x : ℕ) (line starts q : List ℕ) (m j y : ℕ) (others : List ℕ) (new a b : Clause) {pos : ℕ} {claim : Clause} → ClaimAt line pos claim →
+    Expects (drop pos line) new (newAt rule k p x line starts q y others (drop pos line)) →
+    Expects (drop pos line) a (othersAt p n (droppedAt (uses rule .b) p x i j) line starts (drop pos line)) →
+    Expects (drop pos line) b (othersAt q m j line others (drop pos line)) →
+    (g : Agreement) → rowAt rule k p x line starts q y others ≡ judgedOf (concludes g new) → Over formedNumber formedSymbol (new ++ (a ++ b)) →
+    thenClaim (rowAt rule k p x line starts q y others) (eqb (claimAt rule k p n i x line starts q m j y others (drop pos line)) (length (drop pos line))) ≡ judgeConclusion (concludes g (new ++ (a ++ b))) claim
+unfolding judgedOf judgeConclusion thenClaim
+concluded rule k p n i x line starts q m j y others new a b {pos} {claim} at news firsts seconds g row over =
+    rw (row, ← claim-chain rule k p n i x line starts q m j y others (drop pos line) new a b news firsts seconds) (go (holds? g) _ _ (claim-exactly at (new ++ (a ++ b)) over))
+  where
+    go : (d : Dec (Holds g)) (v : Judged) (t : Bool) → cond t Passed WrongClaim ≡ v → thenClaim (ite d Passed Disagrees) t ≡ ite d v Disagrees
+    go (yes h) v t e = e
+    go (no h) v t e = refl

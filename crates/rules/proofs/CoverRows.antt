@@ -65,7 +65,7 @@ module _ {line starts others : List ℕ} {σ τ : Substitution} {v w : ℕ} (g :
   res-meets (lit Negative x) (lit Positive y) a b =
       let c = negative-at p x a in
       let d = positive-at q y b in
-      concluding _ (covering (fillAtom τ y) (fillAtom σ x)) [] refl (rw (both-within p q (c .stands .within) (d .stands .within)) (right-shape _ _ _ (covers-meet g h p q _ _ y d x c))) (λ pos b x. refl)
+      concluding _ (covering (fillAtom τ y) (fillAtom σ x)) [] refl (rw (both-within p q (c .stands .within) (d .stands .within)) (right-shape _ _ _ (covers-meet g h p q _ _ y d x c))) (λ target pos b x. refl)
 
 -- eli: "- obj(P)".
 module _ (k : ℕ) (p : List ℕ) (i : ℕ) (line starts q : List ℕ) (j : ℕ) (others : List ℕ) where
@@ -85,7 +85,7 @@ module _ (k : ℕ) (p : List ℕ) (i : ℕ) (line starts q : List ℕ) (j : ℕ)
       other-eli refl (head-past p 3 (link l t u) (c .rest) (omega arith) (λ e. omega (arith, link-small l)) (c .stands))
   eli-meets σ (lit Negative (obj t)) a =
       let c = negative-at p (obj t) a in
-      concluding _ always [] refl (rw (within-here p _ (subst (λ x. x ≤ length p) (sym eli-place) (head-stands p (obj t) (c .rest) (c .stands) .within))) (right-shape true always [] (λ _. tt, λ _. tt))) (λ pos b x. refl)
+      concluding _ always [] refl (rw (within-here p _ (subst (λ x. x ≤ length p) (sym eli-place) (head-stands p (obj t) (c .rest) (c .stands) .within))) (right-shape true always [] (λ _. tt, λ _. tt))) (λ target pos b x. refl)
   eli-meets σ (lit Negative (method b o m ts r)) a =
       let c = negative-at p (method b o m ts r) a in
       other-eli refl (head-past p 3 (method b o m ts r) (c .rest) (omega arith) (λ e. omega (arith, arrow-range b .0)) (c .stands))

@@ -59,8 +59,8 @@ refl-answers : (σ τ : Substitution) (p line starts q others : List ℕ) → Pa
 unfolding concludeAt secondAt uses conclude width
 refl-answers σ τ p line starts q others P Q G H {pos} {claim} at image i j k =
     let M = refl-meets k p (placeAt p i) q (placeAt p j) others G in
-    concluded Refl k p 0 i (placeAt p i) line starts q 0 j (placeAt p j) others (plus (link Sub (σ 0) (σ 0)) ∷ []) [] []
-    (M .claimed always (plus (link Sub (σ 0) (σ 0)) ∷ []) refl) (no-others line p starts _) (no-others line q others j) always (M .judged) at
+    concluded Refl k p 0 i (placeAt p i) line starts q 0 j (placeAt p j) others (plus (link Sub (σ 0) (σ 0)) ∷ []) [] [] at
+    (M .claimed always (plus (link Sub (σ 0) (σ 0)) ∷ []) refl (drop pos line)) (no-others line p starts (drop pos line) _) (no-others line q others (drop pos line) j) always (M .judged)
     (given-over (bare σ) (bare τ) P Q (fewer (width []) (omega arith) G) H at (no-over σ) (no-over τ) image i j k Refl refl)
 
 -- Checks 9 to 11 of a step. Clause n as a parent, if it is used.

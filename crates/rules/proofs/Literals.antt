@@ -169,13 +169,13 @@ module _ {p : List ℕ} where
   part-measure (unused e) = rw e (refl, refl)
   part-measure (begins {c} rest e f) = rw (e, clause-complete 16 c f rest) (refl, refl)
 
-  -- All its literals but one, expected in the line.
-  pub part-others : {c : Clause} → PartOf p c → {line starts : List ℕ} {σ : Substitution} → Images line starts σ (width c) → (dropped pos b : ℕ) (x : List ℕ) →
-      stripAt line (putLiterals (fillClause σ (without dropped c)) (b ∷ x)) pos ≡ stripAt line (b ∷ x) (othersAt p (length c) dropped line starts pos)
+  -- All its literals but one, expected.
+  pub part-others : {c : Clause} → PartOf p c → {line starts : List ℕ} {σ : Substitution} → Images line starts σ (width c) → (dropped : ℕ) (target : List ℕ) (pos b : ℕ) (x : List ℕ) →
+      stripAt target (putLiterals (fillClause σ (without dropped c)) (b ∷ x)) pos ≡ stripAt target (b ∷ x) (othersAt p (length c) dropped line starts target pos)
   unfolding othersAt othersFrom fillClause withoutFrom putLiterals
-  part-others (unused e) g dropped pos b x = refl
-  part-others (begins {c} rest e f) {line} {starts} {σ} g dropped pos b x =
-      others-claimed p line starts σ (width c) (g .entry) dropped 0 c rest pos b x (literals-stand c rest e) f (omega arith)
+  part-others (unused e) g dropped target pos b x = refl
+  part-others (begins {c} rest e f) {line} {starts} {σ} g dropped target pos b x =
+      others-claimed p line starts target σ (width c) (g .entry) dropped 0 c rest pos b x (literals-stand c rest e) f (omega arith)
 
 -- Two literals stand at one place exactly if they are one literal: so many literals follow.
 unfoldable followed : ℕ → Parsed (Unit {0}) → ℕ

@@ -30,8 +30,8 @@ pub record LiteralAt (p : List ℕ) (at : ℕ) (w : ℕ) (l : Literal) : Type 0 
   pub formed : T (formedLiteral 16 l)
   pub narrow : width (l ∷ []) ≤ w
 
--- Checks 9 and 10 answer what the conclusion says, and where it has a new literal, that is what is expected in the line.
+-- Checks 9 and 10 answer what the conclusion says, and where it has a new literal, that is what is expected, in whatever bytes.
 pub record Meets (rule : Rule) (k : ℕ) (p : List ℕ) (i : ℕ) (line starts q : List ℕ) (j : ℕ) (others : List ℕ) (c : Conclusion) : Type 0 where
   pub judged : rowAt rule k p i line starts q j others ≡ judgedOf c
-  pub claimed : (g : Agreement) (new : Clause) → c ≡ concludes g new → (pos b : ℕ) (x : List ℕ) →
-      stripAt line (putLiterals new (b ∷ x)) pos ≡ stripAt line (b ∷ x) (newAt rule k p i line starts q j others pos)
+  pub claimed : (g : Agreement) (new : Clause) → c ≡ concludes g new → (target : List ℕ) (pos b : ℕ) (x : List ℕ) →
+      stripAt target (putLiterals new (b ∷ x)) pos ≡ stripAt target (b ∷ x) (newAt rule k p i line starts q j others target pos)

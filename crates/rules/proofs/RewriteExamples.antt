@@ -4,7 +4,7 @@ use mathlib.Core.Bool.{Bool, true, false}
 use mathlib.Core.Path.{_≡_, refl}
 use mathlib.Core.List.{List, [], _∷_, _++_, map}
 use lib.Dec.{eqb}
-use lib.ListN.{length}
+use lib.ListN.{length, drop}
 use Rattle.logic.specs.declared.Link.the-variants.{Eq, Mem, Sub}
 use Rattle.logic.specs.declared.Arrow.{Arrow}
 use Rattle.logic.specs.declared.Arrow.the-variants.{Sv, St, Mt}
@@ -69,8 +69,8 @@ table x = judgedOf (x .conclusion)
 -- The new literal ends before the last two brackets.
 abbrev claimed : Case → Bool
 claimed x =
-    let end = newAt (x .rule) (x .k) (putLiteral (x .l) []) 0 (line x) (places (line x) 33 4) (putLiteral (x .m) []) 0 (places (line x) 33 16) 27 in
-    eqb (end + 2) (length (line x))
+    let end = newAt (x .rule) (x .k) (putLiteral (x .l) []) 0 (line x) (places (line x) 33 4) (putLiteral (x .m) []) 0 (places (line x) 33 16) (drop 24 (line x)) 3 in
+    eqb (end + 2) (length (drop 24 (line x)))
 
 abbrev calls : Arrow → Result → Literal
 calls a r = plus (method a (var 0) (c 3) (cons (c 4) (cons (var 0) nil)) r)

@@ -37,8 +37,8 @@ use Rattle.rules.proofs.RowsMeet.{LinkView, no-link, a-link, onLinkOf, 
 -- What is asked of a rewriting rule: the term at x, and the link whose first term is at y.
 pub record Rewritten (p : List ℕ) (i x : ℕ) (line starts q : List ℕ) (y : ℕ) (forward : Bool) (others : List ℕ) (c : Conclusion) : Type 0 where
   pub judged : rewriteAt p x line starts q y forward others ≡ judgedOf c
-  pub claimed : (g : Agreement) (new : Clause) → c ≡ concludes g new → (pos b : ℕ) (z : List ℕ) →
-      stripAt line (putLiterals new (b ∷ z)) pos ≡ stripAt line (b ∷ z) (rewriteNewAt p i x line starts q y forward others pos)
+  pub claimed : (g : Agreement) (new : Clause) → c ≡ concludes g new → (target : List ℕ) (pos b : ℕ) (z : List ℕ) →
+      stripAt target (putLiterals new (b ∷ z)) pos ≡ stripAt target (b ∷ z) (rewriteNewAt p i x line starts q y forward others target pos)
 
 module _ (p : List ℕ) (i x : ℕ) (line starts q : List ℕ) (y : ℕ) (forward : Bool) (others : List ℕ) where
   -- A place that is missing.
@@ -48,18 +48,18 @@ module _ (p : List ℕ) (i x : ℕ) (line starts q : List ℕ) (y : ℕ) (forwar
 
   pub not-rewritten : {c : Conclusion} → (x ≡ length p + 1) ⊎ (nextAt q y ≡ length q + 1) → c ≡ misshapen → Rewritten p i x line starts q y forward others c
   unfolding judgedOf
-  not-rewritten e d = record { judged = misses e ∙ ap judgedOf (sym d); claimed = λ g new h pos b z. let n : _≡_ {A = ℕ} 0 1 = cc in absurd (omega arith) }
+  not-rewritten e d = record { judged = misses e ∙ ap judgedOf (sym d); claimed = λ g new h target pos b z. let n : _≡_ {A = ℕ} 0 1 = cc in absurd (omega arith) }
 
-  -- The new literal, expected in the line.
-  literal-expected : (from : ℕ) (l l′ : Literal) (rest : List ℕ) → Stands p i (putLiteral l rest) → fillItem (replacing line starts (length p - x) q from others) 35 (putLiteral l rest) ≡ got (putLiteral l′ []) rest → (pos b : ℕ) (z : List ℕ) →
-      stripAt line (putLiterals (l′ ∷ []) (b ∷ z)) pos ≡ stripAt line (b ∷ z) (rewrittenAt p i x line starts q from others pos)
+  -- The new literal, expected.
+  literal-expected : (from : ℕ) (l l′ : Literal) (rest : List ℕ) → Stands p i (putLiteral l rest) → fillItem (replacing line starts (length p - x) q from others) 35 (putLiteral l rest) ≡ got (putLiteral l′ []) rest → (target : List ℕ) (pos b : ℕ) (z : List ℕ) →
+      stripAt target (putLiterals (l′ ∷ []) (b ∷ z)) pos ≡ stripAt target (b ∷ z) (rewrittenAt p i x line starts q from others target pos)
   unfolding rewrittenAt putLiterals stripAt
-  literal-expected from l l′ rest s e pos b z =
-      spaced-literal line l′ pos b z
-      ∙ ap (stripAt line (b ∷ z))
+  literal-expected from l l′ rest s e target pos b z =
+      spaced-literal target l′ pos b z
+      ∙ ap (stripAt target (b ∷ z))
       (sym
-      (ap (λ r. endsOf p line (matches r (drop (stripAt line (bytes " ") pos) line)) .pos) (ap (fillItem (replacing line starts (length p - x) q from others) 35) (s .bytes-there) ∙ e)
-      ∙ match-place p line (putLiteral l′ []) rest (drop (stripAt line (bytes " ") pos) line)))
+      (ap (λ r. endsOf p target (matches r (drop (stripAt target (bytes " ") pos) target)) .pos) (ap (fillItem (replacing line starts (length p - x) q from others) 35) (s .bytes-there) ∙ e)
+      ∙ match-place p target (putLiteral l′ []) rest (drop (stripAt target (bytes " ") pos) target)))
 
 module _ (p line starts q others : List ℕ) (σ τ : Substitution) (v w : ℕ) (images : Images line starts σ v) (images′ : Images line others τ w) where
   -- Terms agree as lists of one.
@@ -101,7 +101,7 @@ module _ (p line starts q others : List ℕ) (σ τ : Substitution) (v w : ℕ) 
   rewritten forward {i} {x} {y} t s u l l′ rest a b c k e =
       record {
         judged = rw (both-within p q (a .stands .within) (c .stands .within)) (right-shape (agreeAt p x line starts q (cond forward y (nextAt q y)) others) _ (l′ ∷ []) (side-agrees forward t s u a b c));
-        claimed = λ g new h pos b z. let n : new ≡ l′ ∷ [] = cc in rw n (literal-expected p i x line starts q y forward others (cond forward (nextAt q y) y) l l′ rest k e pos b z);
+        claimed = λ g new h target pos b z. let n : new ≡ l′ ∷ [] = cc in rw n (literal-expected p i x line starts q y forward others (cond forward (nextAt q y) y) l l′ rest k e target pos b z);
       }
 
   -- What is aimed at, and the link.

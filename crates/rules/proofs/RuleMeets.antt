@@ -144,29 +144,29 @@ pub no-over : (τ : Substitution) → Over formedNumber formedSymbol (filled (ba
 unfolding filled fillClause Over
 no-over τ = tt
 
-pub no-others : (line q others : List ℕ) (j : ℕ) → Expects line [] (othersAt q 0 j line others)
+pub no-others : (line q others target : List ℕ) (j : ℕ) → Expects target [] (othersAt q 0 j line others target)
 unfolding othersAt othersFrom putLiterals
-no-others line q others j pos b x = refl
+no-others line q others target j pos b x = refl
 
 module _ (A : Parent) (τ : Substitution) (p line starts q others : List ℕ) (P : PartOf p (A .clause)) (Q : PartOf q [])
     (G : Images line starts (A .image) (width (A .clause))) (H : Images line others τ (width []))
     {pos : ℕ} {claim : Clause} (at : ClaimAt line pos claim)
     (over : Over formedNumber formedSymbol (filled A)) (image : T (eachTerm formedNumber formedSymbol (A .image 0))) (i j k : ℕ) where
   -- Only A's other literals, the one at d apart.
-  one-parent : (rule : Rule) (x y d : ℕ) (g : Agreement) → Expects line [] (newAt rule k p x line starts q y others) → droppedAt (uses rule .b) p x i j ≡ d →
+  one-parent : (rule : Rule) (x y d : ℕ) (g : Agreement) → Expects (drop pos line) [] (newAt rule k p x line starts q y others (drop pos line)) → droppedAt (uses rule .b) p x i j ≡ d →
       rowAt rule k p x line starts q y others ≡ judgedOf (concludes g []) → conclude A (bare τ) i j k rule ≡ concludes g (fillClause (A .image) (without d (A .clause))) →
-      thenClaim (rowAt rule k p x line starts q y others) (eqb (claimAt rule k p (length (A .clause)) i x line starts q 0 j y others pos) (length line)) ≡
+      thenClaim (rowAt rule k p x line starts q y others) (eqb (claimAt rule k p (length (A .clause)) i x line starts q 0 j y others (drop pos line)) (length (drop pos line))) ≡
       judgeConclusion (conclude A (bare τ) i j k rule) claim
   one-parent rule x y d g new e row c =
       let rest = fillClause (A .image) (without d (A .clause)) in
       let a : rest ++ [] ≡ rest = append-nil rest in
-      concluded rule k p (length (A .clause)) i x line starts q 0 j y others [] rest []
-      new (rw e (part-others P G d)) (no-others line q others j) g row at (rw a (given-over A (bare τ) P Q G H at over (no-over τ) image i j k rule c))
+      concluded rule k p (length (A .clause)) i x line starts q 0 j y others [] rest [] at
+      new (rw e (part-others P G d (drop pos line))) (no-others line q others (drop pos line) j) g row (rw a (given-over A (bare τ) P Q G H at over (no-over τ) image i j k rule c))
       ∙ ap (λ z. judgeConclusion z claim) (ap (concludes g) a ∙ sym c)
 
   abbrev Answers : Rule → ℕ → Type 0
   Answers rule y =
-      thenClaim (rowAt rule k p (placeAt p i) line starts q y others) (eqb (claimAt rule k p (length (A .clause)) i (placeAt p i) line starts q 0 j y others pos) (length line)) ≡
+      thenClaim (rowAt rule k p (placeAt p i) line starts q y others) (eqb (claimAt rule k p (length (A .clause)) i (placeAt p i) line starts q 0 j y others (drop pos line)) (length (drop pos line))) ≡
       judgeConclusion (conclude A (bare τ) i j k rule) claim
 
   stopped : (rule : Rule) (y : ℕ) → rowAt rule k p (placeAt p i) line starts q y others ≡ Misshapen → conclude A (bare τ) i j k rule ≡ misshapen → Answers rule y

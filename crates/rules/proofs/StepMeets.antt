@@ -66,7 +66,7 @@ module _ (A B : Parent) {p line starts q others : List ℕ} (P : PartOf p (A .cl
 
   module _ {rule : Rule} {k i j : ℕ} (R : TwoParents rule k A B i j p line starts q others) where
     both-taken : {l m : Literal} {cs ds : Clause} → drop i (A .clause) ≡ l ∷ cs → drop j (B .clause) ≡ m ∷ ds → (c : Conclusion) → R .row l m ≡ c →
-        thenClaim (rowAt rule k p (placeAt p i) line starts q (placeAt q j) others) (eqb (claimAt rule k p (length (A .clause)) i (placeAt p i) line starts q (length (B .clause)) j (placeAt q j) others pos) (length line)) ≡
+        thenClaim (rowAt rule k p (placeAt p i) line starts q (placeAt q j) others) (eqb (claimAt rule k p (length (A .clause)) i (placeAt p i) line starts q (length (B .clause)) j (placeAt q j) others (drop pos line)) (length (drop pos line))) ≡
         judgeConclusion (conclude A B i j k rule) claim
     unfolding judgedOf before droppedAt
     both-taken {l} {m} d e misshapen h =
@@ -75,8 +75,8 @@ module _ (A B : Parent) {p line starts q others : List ℕ} (P : PartOf p (A .cl
     both-taken {l} {m} d e (concludes g new) h =
         let M = R .meets (placeAt p i) (placeAt q j) l m (place-here P i d) (place-here Q j e) in
         let f : conclude A B i j k rule ≡ concludes g (new ++ (fillClause (A .image) (without i (A .clause)) ++ fillClause (B .image) (without j (B .clause)))) = R .gives d e ∙ ap (λ z. before z (fillClause (A .image) (without i (A .clause)) ++ fillClause (B .image) (without j (B .clause)))) h in
-        concluded rule k p (length (A .clause)) i (placeAt p i) line starts q (length (B .clause)) j (placeAt q j) others new (fillClause (A .image) (without i (A .clause))) (fillClause (B .image) (without j (B .clause)))
-        (M .claimed g new h) (rw (R .with-b) (part-others P G i)) (part-others Q H j) g (M .judged ∙ ap judgedOf h) at (given-over i j k rule f)
+        concluded rule k p (length (A .clause)) i (placeAt p i) line starts q (length (B .clause)) j (placeAt q j) others new (fillClause (A .image) (without i (A .clause))) (fillClause (B .image) (without j (B .clause))) at
+        (M .claimed g new h (drop pos line)) (rw (R .with-b) (part-others P G i (drop pos line))) (part-others Q H j (drop pos line)) g (M .judged ∙ ap judgedOf h) (given-over i j k rule f)
         ∙ ap (λ z. judgeConclusion z claim) (sym f)
 
     pub two-meets : concludeAt rule k p (length (A .clause)) i line starts q (length (B .clause)) j others pos ≡ judgeConclusion (conclude A B i j k rule) claim
@@ -84,7 +84,7 @@ module _ (A B : Parent) {p line starts q others : List ℕ} (P : PartOf p (A .cl
     two-meets = rw (R .with-b) (go (take-at i (A .clause)) (take-at j (B .clause)))
       where
         go : Taken i (A .clause) → Taken j (B .clause) →
-            thenClaim (rowAt rule k p (placeAt p i) line starts q (placeAt q j) others) (eqb (claimAt rule k p (length (A .clause)) i (placeAt p i) line starts q (length (B .clause)) j (placeAt q j) others pos) (length line)) ≡
+            thenClaim (rowAt rule k p (placeAt p i) line starts q (placeAt q j) others) (eqb (claimAt rule k p (length (A .clause)) i (placeAt p i) line starts q (length (B .clause)) j (placeAt q j) others (drop pos line)) (length (drop pos line))) ≡
             judgeConclusion (conclude A B i j k rule) claim
         go (taken l cs d) (taken m ds e) = both-taken d e (R .row l m) refl
         go (absent d) t = stops _ _ _ (R .past _ _ (inl (place-past P i d))) (R .lacks (inl d))

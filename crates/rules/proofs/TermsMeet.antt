@@ -109,14 +109,14 @@ module _ {line starts others : List ℕ} {σ τ : Substitution} {v w : ℕ} (g :
         λ h. simp T-and ((h .0, first .1 (h .1)), (second .1 (h .2), third .1 (h .3))),
       )
 
--- A filled term, expected in the line.
-pub term-claimed : (line starts : List ℕ) (σ : Substitution) (w : ℕ) → Entries line starts σ w → {p : List ℕ} {at : ℕ} {t : Term} → TermAt p at w t → (pos : ℕ) →
-    filledAt p at line starts pos ≡ stripAt line (putTerm (fill σ t) []) pos
+-- A filled term, expected.
+pub term-claimed : (line starts target : List ℕ) (σ : Substitution) (w : ℕ) → Entries line starts σ w → {p : List ℕ} {at : ℕ} {t : Term} → TermAt p at w t → (pos : ℕ) →
+    filledAt p at line starts target pos ≡ stripAt target (putTerm (fill σ t) []) pos
 unfolding filledAt stripAt replacing
-term-claimed line starts σ w entry {p} {at} {t} a pos =
-    ap (λ q. endsOf p line (matches q (drop pos line)) .pos)
+term-claimed line starts target σ w entry {p} {at} {t} a pos =
+    ap (λ q. endsOf p target (matches q (drop pos target)) .pos)
     (ap (fillItem (replacing line starts 0 [] 0 starts) 19) (a .stands .bytes-there) ∙ fill-term (replacing line starts 0 [] 0 starts) σ w 19 entry t (term-deeper 16 19 t (omega arith) (a .formed)) (a .narrow) (a .rest) (after-it (omega arith)))
-    ∙ match-place p line (putTerm (fill σ t) []) (a .rest) (drop pos line)
+    ∙ match-place p target (putTerm (fill σ t) []) (a .rest) (drop pos target)
 
 -- A term is written from an open bracket on.
 term-opens : (t : Term) (rest : List ℕ) → (more : List ℕ) × (putTerm t rest ≡ 40 ∷ more)
@@ -133,32 +133,32 @@ past-term line t b x pos = ap (λ z. stripAt line z pos) (in-front (term-plain t
 
 -- A new literal of two filled terms.
 pub linked-claimed : {line starts others : List ℕ} {σ τ : Substitution} {v w : ℕ} → Images line starts σ v → Images line others τ w → {p q : List ℕ} {x y : ℕ} {t u : Term} → TermAt p x v t → TermAt q y w u →
-    (l : Link) (head : List ℕ) → ((rest : List ℕ) → word " (+ (" (word (linkWord l) (word " " rest)) ≡ head ++ rest) → (pos b : ℕ) (z : List ℕ) →
-    stripAt line (putLiterals (plus (link l (fill σ t) (fill τ u)) ∷ []) (b ∷ z)) pos ≡ stripAt line (b ∷ z) (linkedAt head p x line starts q y others pos)
+    (l : Link) (head : List ℕ) → ((rest : List ℕ) → word " (+ (" (word (linkWord l) (word " " rest)) ≡ head ++ rest) → (target : List ℕ) (pos b : ℕ) (z : List ℕ) →
+    stripAt target (putLiterals (plus (link l (fill σ t) (fill τ u)) ∷ []) (b ∷ z)) pos ≡ stripAt target (b ∷ z) (linkedAt head p x line starts q y others target pos)
 unfolding linkedAt putLiterals putLiteral putAtom
-linked-claimed {line} {starts} {others} {σ} {τ} {v} {w} g h {p} {q} {x} {y} {t} {u} a c l head e pos b z =
+linked-claimed {line} {starts} {others} {σ} {τ} {v} {w} g h {p} {q} {x} {y} {t} {u} a c l head e target pos b z =
     let last : List ℕ = 41 ∷ 41 ∷ b ∷ z in
     let second = putTerm (fill τ u) last in
-    ap (λ s. stripAt line s pos) (e (putTerm (fill σ t) (32 ∷ second)))
-    ∙ (then-term line head (fill σ t) (32 ∷ second) pos
-    ∙ (past-term line (fill σ t) 32 second (stripAt line head pos)
-    ∙ (ap (stripAt line (32 ∷ second)) (sym (term-claimed line starts σ v (g .entry) a (stripAt line head pos)))
-    ∙ (then-term line (32 ∷ []) (fill τ u) last _
-    ∙ (past-term line (fill τ u) 41 (41 ∷ b ∷ z) _
-    ∙ (ap (stripAt line last) (sym (term-claimed line others τ w (h .entry) c _))
-    ∙ strip-chain line (41 ∷ 41 ∷ []) b z _))))))
+    ap (λ s. stripAt target s pos) (e (putTerm (fill σ t) (32 ∷ second)))
+    ∙ (then-term target head (fill σ t) (32 ∷ second) pos
+    ∙ (past-term target (fill σ t) 32 second (stripAt target head pos)
+    ∙ (ap (stripAt target (32 ∷ second)) (sym (term-claimed line starts target σ v (g .entry) a (stripAt target head pos)))
+    ∙ (then-term target (32 ∷ []) (fill τ u) last _
+    ∙ (past-term target (fill τ u) 41 (41 ∷ b ∷ z) _
+    ∙ (ap (stripAt target last) (sym (term-claimed line others target τ w (h .entry) c _))
+    ∙ strip-chain target (41 ∷ 41 ∷ []) b z _))))))
 
 -- A row that misses, and one that concludes.
 module _ {rule : Rule} {k : ℕ} {p : List ℕ} {i : ℕ} {line starts q : List ℕ} {j : ℕ} {others : List ℕ} where
   pub missing : (c : Conclusion) → c ≡ misshapen → rowAt rule k p i line starts q j others ≡ Misshapen → Meets rule k p i line starts q j others c
   unfolding judgedOf
-  missing c e h = record { judged = rw e h; claimed = λ g new d pos b x. let w : misshapen ≡ concludes g new = sym e ∙ d in cc }
+  missing c e h = record { judged = rw e h; claimed = λ g new d target pos b x. let w : misshapen ≡ concludes g new = sym e ∙ d in cc }
 
   pub concluding : (c : Conclusion) (g : Agreement) (new : Clause) → c ≡ concludes g new → rowAt rule k p i line starts q j others ≡ judgedOf (concludes g new) →
-      ((pos b : ℕ) (x : List ℕ) → stripAt line (putLiterals new (b ∷ x)) pos ≡ stripAt line (b ∷ x) (newAt rule k p i line starts q j others pos)) → Meets rule k p i line starts q j others c
+      ((target : List ℕ) (pos b : ℕ) (x : List ℕ) → stripAt target (putLiterals new (b ∷ x)) pos ≡ stripAt target (b ∷ x) (newAt rule k p i line starts q j others target pos)) → Meets rule k p i line starts q j others c
   concluding c g new e h claims = record {
     judged = rw e h;
-    claimed = λ g′ new′ d pos b x. let n : new ≡ new′ = same (sym e ∙ d) in subst (λ (z : Clause). stripAt line (putLiterals z (b ∷ x)) pos ≡ stripAt line (b ∷ x) (newAt rule k p i line starts q j others pos)) n (claims pos b x);
+    claimed = λ g′ new′ d target pos b x. let n : new ≡ new′ = same (sym e ∙ d) in subst (λ (z : Clause). stripAt target (putLiterals z (b ∷ x)) pos ≡ stripAt target (b ∷ x) (newAt rule k p i line starts q j others target pos)) n (claims target pos b x);
   }
     where
       same : {g g′ : Agreement} {new new′ : Clause} → concludes g new ≡ concludes g′ new′ → new ≡ new′

@@ -51,12 +51,13 @@ thenClaim Misshapen claimed = Misshapen
 thenClaim Disagrees claimed = Disagrees
 thenClaim WrongClaim claimed = WrongClaim
 
--- Checks 9 to 11, the claim at `pos`: it reaches to the end of the line.
+-- Checks 9 to 11. "the claim begins wherever the second list ends", at `pos`: it is the rest of the line, up to its end.
 unfoldable pub concludeAt : Rule → ℕ → List ℕ → ℕ → ℕ → List ℕ → List ℕ → List ℕ → ℕ → ℕ → List ℕ → ℕ → Judged
 concludeAt rule k p n i line starts q m j others pos =
     let x = placeAt p i in
     let y = secondAt (uses rule .b) p q j in
-    thenClaim (rowAt rule k p x line starts q y others) (eqb (claimAt rule k p n i x line starts q m j y others pos) (length line))
+    let rest = drop pos line in
+    thenClaim (rowAt rule k p x line starts q y others) (eqb (claimAt rule k p n i x line starts q m j y others rest) (length rest))
 
 -- Checks 7 and 8 come before.
 unfoldable pub settledAs : Bool → Bool → Judged → Judged

@@ -1,4 +1,4 @@
-// Check 11: the claim is what the rule gives. Each function answers the place in the line past what it expects.
+// Check 11: the claim is what the rule gives. `rest` is the rest of the line from the claim on; each function answers the place in it past what it expects.
 use crate::compare::Ends;
 use crate::compare::expect;
 use reader::access::skip;
@@ -11,8 +11,8 @@ const DEPTH: usize = 19;
 const HOLE_DEPTH: usize = 35;
 
 // The item at `at` of p, filled.
-pub fn filled(p: &[u8], at: usize, line: &[u8], starts: &[usize], pos: usize) -> usize
-    ensures { λ r. ⌜ r ≡ filledAt (now (p .entry)) at (now (line .entry)) (now (starts .entry)) pos ⌝ }
+pub fn filled(p: &[u8], at: usize, line: &[u8], starts: &[usize], rest: &[u8], pos: usize) -> usize
+    ensures { λ r. ⌜ r ≡ filledAt (now (p .entry)) at (now (line .entry)) (now (starts .entry)) (now (rest .entry)) pos ⌝ }
 {
     let found = expect(
         p,
@@ -24,15 +24,15 @@ pub fn filled(p: &[u8], at: usize, line: &[u8], starts: &[usize], pos: usize) ->
         &p[0..0],
         0,
         starts,
-        line,
+        rest,
         pos,
     );
     found.pos
 }
 
-// The literal at `at` after a space: the places past it, in p and in the line.
-fn kept(p: &[u8], at: usize, line: &[u8], starts: &[usize], pos: usize) -> Ends
-    ensures { λ r. ⌜ r ≡ keptAt (now (p .entry)) at (now (line .entry)) (now (starts .entry)) pos ⌝ }
+// The literal at `at` after a space: the places past it, in p and in the rest.
+fn kept(p: &[u8], at: usize, line: &[u8], starts: &[usize], rest: &[u8], pos: usize) -> Ends
+    ensures { λ r. ⌜ r ≡ keptAt (now (p .entry)) at (now (line .entry)) (now (starts .entry)) (now (rest .entry)) pos ⌝ }
 {
     expect(
         p,
@@ -44,8 +44,8 @@ fn kept(p: &[u8], at: usize, line: &[u8], starts: &[usize], pos: usize) -> Ends
         &p[0..0],
         0,
         starts,
-        line,
-        word(line, pos, b" "),
+        rest,
+        word(rest, pos, b" "),
     )
 }
 
@@ -56,9 +56,10 @@ pub fn others(
     dropped: usize,
     line: &[u8],
     starts: &[usize],
+    rest: &[u8],
     pos: usize,
 ) -> usize
-    ensures { λ r. ⌜ r ≡ othersAt (now (p .entry)) count dropped (now (line .entry)) (now (starts .entry)) pos ⌝ }
+    ensures { λ r. ⌜ r ≡ othersAt (now (p .entry)) count dropped (now (line .entry)) (now (starts .entry)) (now (rest .entry)) pos ⌝ }
 {
     let mut at = word(p, 0, b"(or");
     let mut place = pos;
@@ -72,7 +73,7 @@ pub fn others(
                 at = skip(p, begin);
             }
         } else {
-            let found = kept(p, begin, line, starts, place);
+            let found = kept(p, begin, line, starts, rest, place);
             at = found.at;
             place = found.pos;
         }
@@ -90,9 +91,10 @@ pub fn rewritten(
     q: &[u8],
     from: usize,
     others: &[usize],
+    rest: &[u8],
     pos: usize,
 ) -> usize
-    ensures { λ r. ⌜ r ≡ rewrittenAt (now (p .entry)) at hole (now (line .entry)) (now (starts .entry)) (now (q .entry)) from (now (others .entry)) pos ⌝ }
+    ensures { λ r. ⌜ r ≡ rewrittenAt (now (p .entry)) at hole (now (line .entry)) (now (starts .entry)) (now (q .entry)) from (now (others .entry)) (now (rest .entry)) pos ⌝ }
 {
     let found = expect(
         p,
@@ -104,8 +106,8 @@ pub fn rewritten(
         q,
         from,
         others,
-        line,
-        word(line, pos, b" "),
+        rest,
+        word(rest, pos, b" "),
     );
     found.pos
 }
@@ -120,11 +122,12 @@ pub fn linked(
     q: &[u8],
     y: usize,
     others: &[usize],
+    rest: &[u8],
     pos: usize,
 ) -> usize
-    ensures { λ r. ⌜ r ≡ linkedAt (now (head .entry)) (now (p .entry)) x (now (line .entry)) (now (starts .entry)) (now (q .entry)) y (now (others .entry)) pos ⌝ }
+    ensures { λ r. ⌜ r ≡ linkedAt (now (head .entry)) (now (p .entry)) x (now (line .entry)) (now (starts .entry)) (now (q .entry)) y (now (others .entry)) (now (rest .entry)) pos ⌝ }
 {
-    let left = filled(p, x, line, starts, word(line, pos, head));
-    let right = filled(q, y, line, others, word(line, left, b" "));
-    word(line, right, b"))")
+    let left = filled(p, x, line, starts, rest, word(rest, pos, head));
+    let right = filled(q, y, line, others, rest, word(rest, left, b" "));
+    word(rest, right, b"))")
 }

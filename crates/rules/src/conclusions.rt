@@ -1,4 +1,5 @@
-// Check 11: the fourth column of the rule table, and the claim as a whole. Each function answers the place in the line past what it expects.
+// Check 11: the fourth column of the rule table, and the claim as a whole. `rest` is the rest of the line from the claim on; each function
+// answers the place in it past what it expects.
 use crate::claims::linked;
 use crate::claims::others;
 use crate::claims::rewritten;
@@ -19,8 +20,8 @@ ghost use mathlib.Core.Path.{_≡_};
 ghost use Rattle.rules.specs.Conclusions.{reflNewAt, acyNewAt, scaNewAt, rewriteNewAt, parNewAt, subNewAt, newAt, placeAt, secondAt, droppedAt, claimAt};
 
 // refl: + sub(T,T), T what variable 0 becomes.
-fn refl_new(line: &[u8], starts: &[usize], pos: usize) -> usize
-    ensures { λ r. ⌜ r ≡ reflNewAt (now (line .entry)) (now (starts .entry)) pos ⌝ }
+fn refl_new(line: &[u8], starts: &[usize], rest: &[u8], pos: usize) -> usize
+    ensures { λ r. ⌜ r ≡ reflNewAt (now (line .entry)) (now (starts .entry)) (now (rest .entry)) pos ⌝ }
 {
     linked(
         b" (+ (sub ",
@@ -31,17 +32,18 @@ fn refl_new(line: &[u8], starts: &[usize], pos: usize) -> usize
         b"(v 0)",
         0,
         starts,
+        rest,
         pos,
     )
 }
 
 // acy: + eq(P,Q).
-fn acy_new(p: &[u8], i: usize, line: &[u8], starts: &[usize], pos: usize) -> usize
-    ensures { λ r. ⌜ r ≡ acyNewAt (now (p .entry)) i (now (line .entry)) (now (starts .entry)) pos ⌝ }
+fn acy_new(p: &[u8], i: usize, line: &[u8], starts: &[usize], rest: &[u8], pos: usize) -> usize
+    ensures { λ r. ⌜ r ≡ acyNewAt (now (p .entry)) i (now (line .entry)) (now (starts .entry)) (now (rest .entry)) pos ⌝ }
 {
     let x = first(p, b"(sub ", i);
     let y = next(p, x);
-    linked(b" (+ (eq ", p, x, line, starts, p, y, starts, pos)
+    linked(b" (+ (eq ", p, x, line, starts, p, y, starts, rest, pos)
 }
 
 // sca: + eq(R,R').
@@ -53,13 +55,14 @@ fn sca_new(
     q: &[u8],
     j: usize,
     others: &[usize],
+    rest: &[u8],
     pos: usize,
 ) -> usize
-    ensures { λ r. ⌜ r ≡ scaNewAt (now (p .entry)) i (now (line .entry)) (now (starts .entry)) (now (q .entry)) j (now (others .entry)) pos ⌝ }
+    ensures { λ r. ⌜ r ≡ scaNewAt (now (p .entry)) i (now (line .entry)) (now (starts .entry)) (now (q .entry)) j (now (others .entry)) (now (rest .entry)) pos ⌝ }
 {
     let x = result(p, object(p, b"(sv ", b"(si ", i));
     let y = result(q, object(q, b"(sv ", b"(si ", j));
-    linked(b" (+ (eq ", p, x, line, starts, q, y, others, pos)
+    linked(b" (+ (eq ", p, x, line, starts, q, y, others, rest, pos)
 }
 
 // A rewriting rule: the literal at i with the other side of the link whose first term is at y in place of the term at x.
@@ -73,12 +76,13 @@ fn rewrite_new(
     y: usize,
     forward: bool,
     others: &[usize],
+    rest: &[u8],
     pos: usize,
 ) -> usize
-    ensures { λ r. ⌜ r ≡ rewriteNewAt (now (p .entry)) i x (now (line .entry)) (now (starts .entry)) (now (q .entry)) y forward (now (others .entry)) pos ⌝ }
+    ensures { λ r. ⌜ r ≡ rewriteNewAt (now (p .entry)) i x (now (line .entry)) (now (starts .entry)) (now (q .entry)) y forward (now (others .entry)) (now (rest .entry)) pos ⌝ }
 {
     let from = choose(forward, next(q, y), y);
-    rewritten(p, i, x, line, starts, q, from, others, pos)
+    rewritten(p, i, x, line, starts, q, from, others, rest, pos)
 }
 
 // par: occurrence K of the literal at I, and the second side of the link + eq at J.
@@ -91,13 +95,14 @@ fn par_new(
     q: &[u8],
     j: usize,
     others: &[usize],
+    rest: &[u8],
     pos: usize,
 ) -> usize
-    ensures { λ r. ⌜ r ≡ parNewAt k (now (p .entry)) i (now (line .entry)) (now (starts .entry)) (now (q .entry)) j (now (others .entry)) pos ⌝ }
+    ensures { λ r. ⌜ r ≡ parNewAt k (now (p .entry)) i (now (line .entry)) (now (starts .entry)) (now (q .entry)) j (now (others .entry)) (now (rest .entry)) pos ⌝ }
 {
     let x = occurrence(p, i, k);
     let y = first(q, b"(eq ", j);
-    rewrite_new(p, i, x, line, starts, q, y, true, others, pos)
+    rewrite_new(p, i, x, line, starts, q, y, true, others, rest, pos)
 }
 
 // tra, inc, inh, inp and out.
@@ -112,13 +117,14 @@ fn sub_new(
     q: &[u8],
     j: usize,
     others: &[usize],
+    rest: &[u8],
     pos: usize,
 ) -> usize
-    ensures { λ r. ⌜ r ≡ subNewAt rule forward k (now (p .entry)) i (now (line .entry)) (now (starts .entry)) (now (q .entry)) j (now (others .entry)) pos ⌝ }
+    ensures { λ r. ⌜ r ≡ subNewAt rule forward k (now (p .entry)) i (now (line .entry)) (now (starts .entry)) (now (q .entry)) j (now (others .entry)) (now (rest .entry)) pos ⌝ }
 {
     let x = target(p, rule, k, i);
     let y = first(q, b"(sub ", j);
-    rewrite_new(p, i, x, line, starts, q, y, forward, others, pos)
+    rewrite_new(p, i, x, line, starts, q, y, forward, others, rest, pos)
 }
 
 // The fourth column: the new literal, if any, after a space.
@@ -132,22 +138,88 @@ pub fn new_literal(
     q: &[u8],
     j: usize,
     others: &[usize],
+    rest: &[u8],
     pos: usize,
 ) -> usize
-    ensures { λ r. ⌜ r ≡ newAt rule k (now (p .entry)) i (now (line .entry)) (now (starts .entry)) (now (q .entry)) j (now (others .entry)) pos ⌝ }
+    ensures { λ r. ⌜ r ≡ newAt rule k (now (p .entry)) i (now (line .entry)) (now (starts .entry)) (now (q .entry)) j (now (others .entry)) (now (rest .entry)) pos ⌝ }
 {
     match rule {
-        Rule::Refl => refl_new(line, starts, pos),
+        Rule::Refl => refl_new(line, starts, rest, pos),
         Rule::Res => pos,
         Rule::Fac => pos,
-        Rule::Par => par_new(k, p, i, line, starts, q, j, others, pos),
-        Rule::Acy => acy_new(p, i, line, starts, pos),
-        Rule::Tra => sub_new(Rule::Tra, true, k, p, i, line, starts, q, j, others, pos),
-        Rule::Inc => sub_new(Rule::Inc, true, k, p, i, line, starts, q, j, others, pos),
-        Rule::Inh => sub_new(Rule::Inh, false, k, p, i, line, starts, q, j, others, pos),
-        Rule::Inp => sub_new(Rule::Inp, false, k, p, i, line, starts, q, j, others, pos),
-        Rule::Out => sub_new(Rule::Out, true, k, p, i, line, starts, q, j, others, pos),
-        Rule::Sca => sca_new(p, i, line, starts, q, j, others, pos),
+        Rule::Par => par_new(k, p, i, line, starts, q, j, others, rest, pos),
+        Rule::Acy => acy_new(p, i, line, starts, rest, pos),
+        Rule::Tra => sub_new(
+            Rule::Tra,
+            true,
+            k,
+            p,
+            i,
+            line,
+            starts,
+            q,
+            j,
+            others,
+            rest,
+            pos,
+        ),
+        Rule::Inc => sub_new(
+            Rule::Inc,
+            true,
+            k,
+            p,
+            i,
+            line,
+            starts,
+            q,
+            j,
+            others,
+            rest,
+            pos,
+        ),
+        Rule::Inh => sub_new(
+            Rule::Inh,
+            false,
+            k,
+            p,
+            i,
+            line,
+            starts,
+            q,
+            j,
+            others,
+            rest,
+            pos,
+        ),
+        Rule::Inp => sub_new(
+            Rule::Inp,
+            false,
+            k,
+            p,
+            i,
+            line,
+            starts,
+            q,
+            j,
+            others,
+            rest,
+            pos,
+        ),
+        Rule::Out => sub_new(
+            Rule::Out,
+            true,
+            k,
+            p,
+            i,
+            line,
+            starts,
+            q,
+            j,
+            others,
+            rest,
+            pos,
+        ),
+        Rule::Sca => sca_new(p, i, line, starts, q, j, others, rest, pos),
         Rule::Eli => pos,
     }
 }
@@ -174,7 +246,7 @@ fn dropped(uses_b: bool, p: &[u8], at: usize, i: usize, j: usize) -> usize
     choose(uses_b, i, other)
 }
 
-// The whole claim: the new literal, A's other literals, B's other literals, and the end of the line.
+// The whole claim, in the rest of the line: the new literal, A's other literals, B's other literals, and the end of the line.
 // The clauses have n and m literals, those at I and J begin at x and y.
 pub fn claim(
     rule: Rule,
@@ -190,14 +262,14 @@ pub fn claim(
     j: usize,
     y: usize,
     list: &[usize],
-    pos: usize,
+    rest: &[u8],
 ) -> usize
-    ensures { λ r. ⌜ r ≡ claimAt rule k (now (p .entry)) n i x (now (line .entry)) (now (starts .entry)) (now (q .entry)) m j y (now (list .entry)) pos ⌝ }
+    ensures { λ r. ⌜ r ≡ claimAt rule k (now (p .entry)) n i x (now (line .entry)) (now (starts .entry)) (now (q .entry)) m j y (now (list .entry)) (now (rest .entry)) ⌝ }
 {
-    let open = word(line, pos, b"(or");
-    let new = new_literal(rule, k, p, x, line, starts, q, y, list, open);
+    let open = word(rest, 0, b"(or");
+    let new = new_literal(rule, k, p, x, line, starts, q, y, list, rest, open);
     let lacks = dropped(used(rule, 2), p, x, i, j);
-    let first = others(p, n, lacks, line, starts, new);
-    let last = others(q, m, j, line, list, first);
-    word(line, last, b"))")
+    let first = others(p, n, lacks, line, starts, rest, new);
+    let last = others(q, m, j, line, list, rest, first);
+    word(rest, last, b"))")
 }

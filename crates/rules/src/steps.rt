@@ -108,8 +108,9 @@ pub fn conclude(
     let x = place(p, i);
     let y = second(used(rule, 2), p, q, j);
     let answer = row(rule, k, p, x, line, starts, q, y, others);
-    let end = claim(rule, k, p, n, i, x, line, starts, q, m, j, y, others, pos);
-    then_claim(answer, end == line.len())
+    let rest = clause_part(line, pos);
+    let end = claim(rule, k, p, n, i, x, line, starts, q, m, j, y, others, rest);
+    then_claim(answer, end == rest.len())
 }
 
 // Checks 7 and 8 come before.

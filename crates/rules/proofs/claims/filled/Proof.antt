@@ -32,7 +32,7 @@ expect-requires c κs = search needs
 returns : tie.Need-returns
 unfolding filledAt
 returns c =
-    let z : length (now (c .before .before .before .before .before .args .p)) - length (now (c .before .before .before .before .before .args .p)) ≡ 0 = omega arith in
+    let z : length (now (c .before .before .before .before .before .before .args .p)) - length (now (c .before .before .before .before .before .before .args .p)) ≡ 0 = omega arith in
     ap (λ (e : Ends). e .pos) (rw z at (c .expect .ensures))
 
 pub filled-spec : {M : Type 1} → statement M

@@ -41,7 +41,7 @@ expect-requires c κs = search needs
 returns : tie.Need-returns
 unfolding keptAt stripAt
 returns c =
-    let a = c .before .before .before .before .before .before .before .args in
+    let a = c .before .before .before .before .before .before .before .before .args in
     let z : length (now (a .p)) - length (now (a .p)) ≡ 0 = omega arith in
     rw (z, c .before .word .ensures) at (c .expect .ensures)
 

@@ -99,62 +99,62 @@ enum-told-12 c = search needs
 -- src/conclusions.rt:125:1
 returns : tie.Need-returns
 unfolding newAt
-returns c = let e : c .before .before .before .before .before .before .before .before .args .rule ≡ Refl = c .before .enum-told .given .1 in rw (e, c .refl-new .ensures)
+returns c = let e : c .before .before .before .before .before .before .before .before .before .args .rule ≡ Refl = c .before .enum-told .given .1 in rw (e, c .refl-new .ensures)
 
 -- src/conclusions.rt:125:1
 returns-2 : tie.Need-returns-2
 unfolding newAt
-returns-2 c = let e : c .before .before .before .before .before .before .before .args .rule ≡ Res = c .enum-told2 .given .1 in rw (e)
+returns-2 c = let e : c .before .before .before .before .before .before .before .before .args .rule ≡ Res = c .enum-told2 .given .1 in rw (e)
 
 -- src/conclusions.rt:125:1
 returns-3 : tie.Need-returns-3
 unfolding newAt
-returns-3 c = let e : c .before .before .before .before .before .before .before .args .rule ≡ Fac = c .enum-told3 .given .1 in rw (e)
+returns-3 c = let e : c .before .before .before .before .before .before .before .before .args .rule ≡ Fac = c .enum-told3 .given .1 in rw (e)
 
 -- src/conclusions.rt:125:1
 returns-4 : tie.Need-returns-4
 unfolding newAt
-returns-4 c = let e : c .before .before .before .before .before .before .before .before .args .rule ≡ Par = c .before .enum-told4 .given .1 in rw (e, c .par-new .ensures)
+returns-4 c = let e : c .before .before .before .before .before .before .before .before .before .args .rule ≡ Par = c .before .enum-told4 .given .1 in rw (e, c .par-new .ensures)
 
 -- src/conclusions.rt:125:1
 returns-5 : tie.Need-returns-5
 unfolding newAt
-returns-5 c = let e : c .before .before .before .before .before .before .before .before .args .rule ≡ Acy = c .before .enum-told5 .given .1 in rw (e, c .acy-new .ensures)
+returns-5 c = let e : c .before .before .before .before .before .before .before .before .before .args .rule ≡ Acy = c .before .enum-told5 .given .1 in rw (e, c .acy-new .ensures)
 
 -- src/conclusions.rt:125:1
 returns-6 : tie.Need-returns-6
 unfolding newAt
-returns-6 c = let e : c .before .before .before .before .before .before .before .before .args .rule ≡ Tra = c .before .enum-told6 .given .1 in rw (e, c .sub-new .ensures)
+returns-6 c = let e : c .before .before .before .before .before .before .before .before .before .args .rule ≡ Tra = c .before .enum-told6 .given .1 in rw (e, c .sub-new .ensures)
 
 -- src/conclusions.rt:125:1
 returns-7 : tie.Need-returns-7
 unfolding newAt
-returns-7 c = let e : c .before .before .before .before .before .before .before .before .args .rule ≡ Inc = c .before .enum-told7 .given .1 in rw (e, c .sub-new2 .ensures)
+returns-7 c = let e : c .before .before .before .before .before .before .before .before .before .args .rule ≡ Inc = c .before .enum-told7 .given .1 in rw (e, c .sub-new2 .ensures)
 
 -- src/conclusions.rt:125:1
 returns-8 : tie.Need-returns-8
 unfolding newAt
-returns-8 c = let e : c .before .before .before .before .before .before .before .before .args .rule ≡ Inh = c .before .enum-told8 .given .1 in rw (e, c .sub-new3 .ensures)
+returns-8 c = let e : c .before .before .before .before .before .before .before .before .before .args .rule ≡ Inh = c .before .enum-told8 .given .1 in rw (e, c .sub-new3 .ensures)
 
 -- src/conclusions.rt:125:1
 returns-9 : tie.Need-returns-9
 unfolding newAt
-returns-9 c = let e : c .before .before .before .before .before .before .before .before .args .rule ≡ Inp = c .before .enum-told9 .given .1 in rw (e, c .sub-new4 .ensures)
+returns-9 c = let e : c .before .before .before .before .before .before .before .before .before .args .rule ≡ Inp = c .before .enum-told9 .given .1 in rw (e, c .sub-new4 .ensures)
 
 -- src/conclusions.rt:125:1
 returns-10 : tie.Need-returns-10
 unfolding newAt
-returns-10 c = let e : c .before .before .before .before .before .before .before .before .args .rule ≡ Out = c .before .enum-told10 .given .1 in rw (e, c .sub-new5 .ensures)
+returns-10 c = let e : c .before .before .before .before .before .before .before .before .before .args .rule ≡ Out = c .before .enum-told10 .given .1 in rw (e, c .sub-new5 .ensures)
 
 -- src/conclusions.rt:125:1
 returns-11 : tie.Need-returns-11
 unfolding newAt
-returns-11 c = let e : c .before .before .before .before .before .before .before .before .args .rule ≡ Sca = c .before .enum-told11 .given .1 in rw (e, c .sca-new .ensures)
+returns-11 c = let e : c .before .before .before .before .before .before .before .before .before .args .rule ≡ Sca = c .before .enum-told11 .given .1 in rw (e, c .sca-new .ensures)
 
 -- src/conclusions.rt:125:1
 returns-12 : tie.Need-returns-12
 unfolding newAt
-returns-12 c = let e : c .before .before .before .before .before .before .before .args .rule ≡ Eli = c .enum-told12 .given .1 in rw (e)
+returns-12 c = let e : c .before .before .before .before .before .before .before .before .args .rule ≡ Eli = c .enum-told12 .given .1 in rw (e)
 
 pub new-literal-spec : {M : Type 1} → statement M
 new-literal-spec =
