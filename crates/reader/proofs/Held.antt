@@ -67,6 +67,10 @@ failure-passed : (held : code.State) (start : ℕ) (l : LineAt) (f : ℕ) → pa
 unfolding passed
 failure-passed held start l f = onTest (λ (r : Read). r .failure ≡ f) (eqb f 0) (λ _. refl) (λ _. refl)
 
+read-passed : (held : code.State) (start : ℕ) (l : LineAt) (f : ℕ) → passed held start l f .line ≡ l
+unfolding passed
+read-passed held start l f = onTest (λ (r : Read). r .line ≡ l) (eqb f 0) (λ _. refl) (λ _. refl)
+
 module _ {text : List ℕ} {held : code.State} {st : State} (R : Represents text held st) (full : held .clauses < 1024) (bytes : List ℕ) (start : ℕ) where
   held-failure : (r : Reading) → failureOf (held .symbols) (held .clauses) (held .inputs) (hasConstant (st .symbols)) (lineOf (st .symbols) bytes r) ≡ readFailure st r
   unfolding failureOf failureIn clauseFailure readFailure lineFailure lineOf ordered constantReady withinLimits symbolsDeclared office clauses stepMeasure joined clauseMeasure termsMeasure
@@ -79,8 +83,12 @@ module _ {text : List ℕ} {held : code.State} {st : State} (R : Represents text
   unfolding readLineAt readOn
   line-failure = failure-passed held start _ _ ∙ rw (R .table) (held-failure (readLine 16 bytes))
 
+  pub line-read : readLineAt held bytes start .line ≡ lineOf (st .symbols) bytes (readLine 16 bytes)
+  unfolding readLineAt readOn
+  line-read = read-passed held start _ _ ∙ rw (R .table)
+
   -- "comes back after each line": the state after a line that passes, and whether it is a step.
-  pub line-passed : readFailure st (readLine 16 bytes) ≡ 0 → readLineAt held bytes start ≡ record { failure = 0; by = isBy (lineOf (st .symbols) bytes (readLine 16 bytes) .form); state = advanced held start (lineOf (st .symbols) bytes (readLine 16 bytes)) (lineOf (st .symbols) bytes (readLine 16 bytes) .form) }
+  pub line-passed : readFailure st (readLine 16 bytes) ≡ 0 → readLineAt held bytes start ≡ record { failure = 0; by = isBy (lineOf (st .symbols) bytes (readLine 16 bytes) .form); line = lineOf (st .symbols) bytes (readLine 16 bytes); state = advanced held start (lineOf (st .symbols) bytes (readLine 16 bytes)) (lineOf (st .symbols) bytes (readLine 16 bytes) .form) }
   unfolding readLineAt readOn passed
   line-passed e = rw (R .table, held-failure (readLine 16 bytes) ∙ e)
 

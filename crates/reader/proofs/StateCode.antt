@@ -76,10 +76,10 @@ module _ (st : State) (text : List ℕ) (start : ℕ) {table : List ℕ} {l : Li
   unfolding readLineAt readOn heldTable
   read-on = rw (← t, ← h, ← r, ← e)
 
-  pub failed : (f ≡ 0 → ⊥) → record { failure = f; by = false; state = st } ≡ readLineAt st text start
+  pub failed : (f ≡ 0 → ⊥) → record { failure = f; by = false; line = l; state = st } ≡ readLineAt st text start
   unfolding passed
   failed n = sym (read-on ∙ rw (ne-eqb f 0 n))
 
-  pub went-on : {b : Bool} {next : State} → f ≡ 0 → b ≡ isBy (l .form) → next ≡ advanced st start l (l .form) → record { failure = f; by = b; state = next } ≡ readLineAt st text start
+  pub went-on : {b : Bool} {next : State} → f ≡ 0 → b ≡ isBy (l .form) → next ≡ advanced st start l (l .form) → record { failure = f; by = b; line = l; state = next } ≡ readLineAt st text start
   unfolding passed
   went-on z p q = sym (read-on ∙ rw (eq-eqb f 0 z, p, q))

@@ -64,7 +64,7 @@ isBy Input = false
 isBy By = true
 
 unfoldable pub passed : State → ℕ → LineAt → ℕ → Read
-passed st start l failure = cond (eqb failure 0) (record { failure = failure; by = isBy (l .form); state = advanced st start l (l .form) }) (record { failure = failure; by = false; state = st })
+passed st start l failure = cond (eqb failure 0) (record { failure = failure; by = isBy (l .form); line = l; state = advanced st start l (l .form) }) (record { failure = failure; by = false; line = l; state = st })
 
 unfoldable pub readOn : State → ℕ → LineAt → Read
 readOn st start l = passed st start l (failureOf (st .symbols) (st .clauses) (st .inputs) (hasConstant (heldTable st)) l)

@@ -27,10 +27,11 @@ pub struct State {
     pub inputs: usize,
 }
 
-// What reading a line tells: the number of its first failing check of 2 to 6, or 0; whether it is a step; the state after it.
+// What reading a line tells: the number of its first failing check of 2 to 6, or 0; whether it is a step; the line as it was read; the state after it.
 pub struct Read {
     pub failure: usize,
     pub by: bool,
+    pub line: LineAt,
     pub state: State,
 }
 
@@ -167,16 +168,27 @@ pub fn read_line(state: State, text: &[u8], start: usize) -> Read
     let failure = failure(symbols, state.clauses, state.inputs, ready, l);
     let by = false;
     if failure != 0 {
-        return Read { failure, by, state };
+        return Read {
+            failure,
+            by,
+            line: l,
+            state,
+        };
     }
     let f = l.form;
     match f {
-        Form::NoForm => Read { failure, by, state },
+        Form::NoForm => Read {
+            failure,
+            by,
+            line: l,
+            state,
+        },
         Form::Sym => {
             let next = add_symbol(state, l.k);
             Read {
                 failure,
                 by,
+                line: l,
                 state: next,
             }
         }
@@ -185,6 +197,7 @@ pub fn read_line(state: State, text: &[u8], start: usize) -> Read
             Read {
                 failure,
                 by,
+                line: l,
                 state: next,
             }
         }
@@ -194,6 +207,7 @@ pub fn read_line(state: State, text: &[u8], start: usize) -> Read
             Read {
                 failure,
                 by,
+                line: l,
                 state: next,
             }
         }

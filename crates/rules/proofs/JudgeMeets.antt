@@ -20,6 +20,7 @@ use Rattle.logic.specs.Rules.{uses, always, plus, Parent, filled}
 use Rattle.logic.specs.Judge.{parentClause, parentA, parentB, below, parentsBelow, unusedZero, firstLength, listsFit, numbersRight, withNew, conclude, conclusion, judgeConclusion, judge}
 use Rattle.logic.proofs.Both.{left, right}
 use Rattle.logic.proofs.Over.{Over, fill-over}
+use Rattle.reader.specs.declared.forms.LineAt.{LineAt}
 use Rattle.reader.specs.declared.states.State as code
 use Rattle.reader.specs.Words.{bytes}
 use Rattle.reader.specs.Write.{word, putLet, putTerms}
@@ -38,7 +39,7 @@ use Rattle.rules.specs.Uses.{parentNumbers, unusedNumbers}
 use Rattle.rules.specs.Claims.{othersAt}
 use Rattle.rules.specs.Shapes.{stripAt}
 use Rattle.rules.specs.Conclusions.{placeAt, secondAt}
-use Rattle.rules.specs.Judging.{partAt, measureAt, listAt, listsAt, concludeAt, settledAs, stepAt, partsAt, judgeAt, Judges}
+use Rattle.rules.specs.Judging.{partAt, measureAt, listAt, listsAt, concludeAt, settledAs, stepAt, partsAt, judgeAt, Judges, JudgesRead}
 use Rattle.rules.proofs.Placing as placing
 use Rattle.rules.proofs.LineLists.{line-entry}
 use Rattle.rules.proofs.Meets.{Images}
@@ -198,10 +199,10 @@ module _ {text : List ℕ} {held : code.State} {st : State} (R : Represents text
           (filled-over c (s .first) (part-over P) numbers) (filled-over d (s .second) (part-over Q) numbers′))
 
     -- Demand 2, of the call: the answer is that of the definitions.
-    judged : judgeAt text held line ≡ judge (clauses st) s
-    unfolding judgeAt partsAt stepAt lineOf judge parentNumbers parentsBelow
-    judged =
-        rw (e, R .count)
+    judged : (table : List ℕ) → partsAt text held line (lineOf table line (form (by s))) ≡ judge (clauses st) s
+    unfolding partsAt stepAt lineOf judge parentNumbers parentsBelow
+    judged table =
+        rw (R .count)
         (settled-same (parentsBelow (clauses st) s) (λ b. numbers-same (parent-a b) (parent-b b)) (λ b n. rest-same (parent-a b) (parent-b b) n))
       where
         parent-a : T (parentsBelow (clauses st) s) → PartOf (partAt text (held .starts) (uses (s .rule) .a) (s .a)) (parentClause (clauses st) (uses (s .rule) .a) (s .a))
@@ -210,6 +211,10 @@ module _ {text : List ℕ} {held : code.State} {st : State} (R : Represents text
         parent-b : T (parentsBelow (clauses st) s) → PartOf (partAt text (held .starts) (uses (s .rule) .b) (s .b)) (parentClause (clauses st) (uses (s .rule) .b) (s .b))
         parent-b b = part-of (uses (s .rule) .b) (s .b) (right (below (length (clauses st)) (uses (s .rule) .a) (s .a)) (below (length (clauses st)) (uses (s .rule) .b) (s .b)) b)
 
+pub read-meets : (text : List ℕ) (held : code.State) (line : List ℕ) (l : LineAt) → JudgesRead text held line l (partsAt text held line l)
+unfolding JudgesRead
+read-meets text held line l st s table q R e passes = ap (partsAt text held line) q ∙ judged R line s e passes table
+
 pub judge-meets : (text : List ℕ) (held : code.State) (line : List ℕ) → Judges text held line (judgeAt text held line)
-unfolding Judges
-judge-meets text held line st s R e passes = judged R line s e passes
+unfolding Judges judgeAt
+judge-meets text held line st s R e passes = ap (λ r. partsAt text held line (lineOf [] line r)) e ∙ judged R line s e passes []

@@ -83,3 +83,9 @@ judgeAt text held line = partsAt text held line (lineOf [] line (readLine 16 lin
 unfoldable pub Judges : List ℕ → code.State → List ℕ → Judged → Type 0
 Judges text held line r =
     (st : State) (s : Step) → Represents text held st → readLine 16 line ≡ form (by s) → readFailure st (form (by s)) ≡ 0 → r ≡ judge (clauses st) s
+
+-- The same over the line as it was read, whichever the table was.
+unfoldable pub JudgesRead : List ℕ → code.State → List ℕ → LineAt → Judged → Type 0
+JudgesRead text held line l r =
+    (st : State) (s : Step) (table : List ℕ) → l ≡ lineOf table line (form (by s)) → Represents text held st → readLine 16 line ≡ form (by s) →
+    readFailure st (form (by s)) ≡ 0 → r ≡ judge (clauses st) s

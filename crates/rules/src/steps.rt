@@ -20,7 +20,7 @@ use reader::texts::clause_part;
 use reader::words::word;
 ghost use mathlib.Core.Path.{_≡_};
 ghost use lib.ListN.{getD};
-ghost use Rattle.rules.specs.Judging.{partAt, measureAt, listAt, listsAt, thenClaim, concludeAt, settledAs, stepAt, partsAt, judgeAt, Judges};
+ghost use Rattle.rules.specs.Judging.{partAt, measureAt, listAt, listsAt, thenClaim, concludeAt, settledAs, stepAt, partsAt, judgeAt, Judges, JudgesRead};
 
 const DEPTH: usize = 16;
 
@@ -153,8 +153,9 @@ pub fn step(own: usize, p: &[u8], q: &[u8], line: &[u8], l: LineAt) -> Judged
 }
 
 // Checks 7 to 11 of the step on a line that is read, with the parents from the text by the places that the state before the line holds.
-fn parts(text: &[u8], state: State, line: &[u8], l: LineAt) -> Judged
+pub fn judge_read(text: &[u8], state: State, line: &[u8], l: LineAt) -> Judged
     ensures { λ r. ⌜ r ≡ partsAt (now (text .entry)) state (now (line .entry)) l ⌝ }
+    ensures { λ r. ⌜ JudgesRead (now (text .entry)) state (now (line .entry)) l r ⌝ }
 {
     let rule = l.rule;
     let held = state.starts;
@@ -170,5 +171,5 @@ pub fn judge(text: &[u8], state: State, line: &[u8]) -> Judged
     ensures { λ r. ⌜ Judges (now (text .entry)) state (now (line .entry)) r ⌝ }
 {
     let l = read_form(line, &line[0..0]);
-    parts(text, state, line, l)
+    judge_read(text, state, line, l)
 }

@@ -24,11 +24,11 @@ use Rattle.reader.specs.State.{State, fresh, claimOf, clauses, advance, ordered
 use Rattle.reader.specs.Represents.{Represents, readFailure}
 use Rattle.reader.proofs.Places.{at-byte, past}
 use Rattle.reader.proofs.Sizes.{split-at, split-over, ended-length}
-use Rattle.reader.proofs.Held.{fresh-represents, line-failure, line-passed, line-state}
+use Rattle.reader.proofs.Held.{fresh-represents, line-failure, line-read, line-passed, line-state}
 use Rattle.verdict.specs.declared.Verdict.{Verdict}
 use Rattle.verdict.specs.declared.Verdict.the-variants.{Refused}
 use Rattle.verdict.specs.declared.Checked.{Checked}
-use Rattle.rules.specs.Judging.{Judges}
+use Rattle.rules.specs.Judging.{JudgesRead}
 use Rattle.verdict.specs.Checks.{readings}
 use Rattle.verdict.specs.Answer.{stepFailure, failure, readOn}
 use Rattle.verdict.specs.Running.{Tells, Room, Ended, Next, Finishes}
@@ -108,12 +108,13 @@ module _ {text : List ℕ} {held : code.State} {st : State} (R : Represents text
     λ _. line-state R full small line rest at l d (passes e),
   )
 
-  judged-number : (j : Judged) → Judges text held line j → readLineAt held line at .failure ≡ 0 → (s : Step) → readLine 16 line ≡ form (by s) → judgedNumber j ≡ failure office st (readLine 16 line)
-  unfolding Judges ofStep stepFailure
+  judged-number : (j : Judged) → JudgesRead text held line (readLineAt held line at .line) j → readLineAt held line at .failure ≡ 0 → (s : Step) → readLine 16 line ≡ form (by s) → judgedNumber j ≡ failure office st (readLine 16 line)
+  unfolding JudgesRead ofStep stepFailure
   judged-number j g e s q =
-      rw q (ap judgedNumber (g st s R q (sym (ap (readFailure st) q) ∙ passes e)) ∙ sym (passed-then st (form (by s)) (sym (ap (readFailure st) q) ∙ passes e)))
+      let read : readLineAt held line at .line ≡ lineOf (st .symbols) line (form (by s)) = line-read R full line at ∙ ap (lineOf (st .symbols) line) q in
+      rw q (ap judgedNumber (g st s (st .symbols) read R q (sym (ap (readFailure st) q) ∙ passes e)) ∙ sym (passed-then st (form (by s)) (sym (ap (readFailure st) q) ∙ passes e)))
 
-  pub tells-step : readLineAt held line at .failure ≡ 0 → readLineAt held line at .by ≡ true → (j : Judged) {n : ℕ} → Judges text held line j → n ≡ judgedNumber j →
+  pub tells-step : readLineAt held line at .failure ≡ 0 → readLineAt held line at .by ≡ true → (j : Judged) {n : ℕ} → JudgesRead text held line (readLineAt held line at .line) j → n ≡ judgedNumber j →
       Tells text st (readLine 16 line) (record { failure = n; state = readLineAt held line at .state })
   unfolding Tells
   tells-step e f j {n} g q =

@@ -9,7 +9,7 @@ use reader::texts::line_end;
 use reader::texts::line_ended;
 use reader::texts::too_large;
 use reader::words::word;
-use rules::steps::judge;
+use rules::steps::judge_read;
 ghost use Prim.Native.Nat.{_≤_, _<_};
 ghost use mathlib.Core.Path.{_≡_};
 ghost use mathlib.Core.Bool.{false};
@@ -74,7 +74,7 @@ fn ended(text: &[u8], at: usize, line: &[u8], state: State) -> Checked
             state: next,
         };
     }
-    let judged = judge(text, state, line);
+    let judged = judge_read(text, state, line, read.line);
     let failure = number(judged);
     Checked {
         failure,

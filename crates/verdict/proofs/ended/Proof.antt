@@ -27,8 +27,8 @@ returns-2 c =
     let b : not (r .by) ≡ true = c .if2 .taken in
     λ st rest R room l d. rw e (tells-passed R room (now (a .line)) rest (a .at) l d (rw e at (c .before .before .if1 .left)) (rw e at (not-true (r .by) b)))
 
-judge-requires : tie.Need-judge-requires
-judge-requires c κs = tt
+judge-read-requires : tie.Need-judge-read-requires
+judge-read-requires c κs = tt
 
 number-requires : tie.Need-number-requires
 number-requires c κs = tt
@@ -40,9 +40,9 @@ returns-3 c =
     let r = c .before .before .before .before .before .before .read-line .result in
     let e = c .before .before .before .before .before .before .read-line .ensures in
     let b : not (r .by) ≡ false = c .before .before .if2 .left in
-    λ st rest R room l d. rw e (tells-step R room (now (a .line)) rest (a .at) l d (rw e at (c .before .before .before .before .if1 .left)) (rw e at (not-false (r .by) b)) _ (c .before .judge .ensures .1) (c .number .ensures))
+    λ st rest R room l d. rw e (tells-step R room (now (a .line)) rest (a .at) l d (rw e at (c .before .before .before .before .if1 .left)) (rw e at (not-false (r .by) b)) _ (rw e at (c .before .judge-read .ensures .1)) (c .number .ensures))
 
 pub ended-spec : {M : Type 1} → statement M
 ended-spec =
     tie.close
-    (tie.spec read-line-requires returns returns-2 judge-requires number-requires returns-3)
+    (tie.spec read-line-requires returns returns-2 judge-read-requires number-requires returns-3)
