@@ -12,30 +12,27 @@ use lib.ListN.{length, getD, drop, set, length-append, length-set, length-drop, 
 use lib.Seq.{take-suc-set, getD-set-same, getD-set-other, getD-append-seam, drop-drop, drop-append-le}
 use Rattle.logic.specs.Syntax.{Clause, Step, Line, input, by}
 use Rattle.logic.specs.Syntax as syntax
-use Rattle.logic.specs.Each.{any, declares, eachTerms, eachClause}
+use Rattle.logic.specs.Each.{any, declares, eachTerms, eachClause, width}
 use Rattle.logic.proofs.Both.{right}
 use Rattle.reader.specs.declared.states.State as code
-use Rattle.reader.specs.declared.states.Read.{Read}
-use Rattle.reader.specs.declared.forms.LineAt.{LineAt}
 use Rattle.reader.specs.Write.{putClause}
 use Rattle.reader.specs.Read.{Reading, form, noForm, readLine}
 use Rattle.reader.specs.Form.{formedNumber, formedTerms, formedClause, formedStep, formedLine}
 use Rattle.reader.specs.Figures.{office}
 use Rattle.reader.specs.State.{State, fresh, claimOf, clauses, advance, isEmpty, ordered, hasConstant, constantReady, clauseFits, listFits, withinLimits, symbolsDeclared, lineFailure, after}
 use Rattle.reader.specs.Summary.{joined, termsMeasure, clauseMeasure}
-use Rattle.reader.specs.LineAt.{fromClause, placeOf, stepMeasure, lineOf}
-use Rattle.reader.specs.ReadLine.{freshState, heldTable, clauseFailure, failureIn, failureOf, placed, withSymbol, withClause, advanced, isBy, passed, readOn, readLineAt}
+use Rattle.reader.specs.LineAt.{formNumber, fromClause, placeOf, stepMeasure, lineOf}
+use Rattle.reader.specs.ReadLine.{freshState, heldTable, clauseFailure, failureIn, failureOf, seenAt, placed, byteOf, countedIn, addedBy, withSymbol, withClause, withAdded}
 use Rattle.reader.specs.Represents.{Stands, Represents, readFailure}
-use Rattle.reader.proofs.Tests.{onTest}
 use Rattle.reader.proofs.Plain.{clause-plain, in-front}
 use Rattle.reader.proofs.Sound.{line-sound}
 use Rattle.reader.proofs.LineParts.{input-place, claim-place}
-use Rattle.reader.proofs.Limits.{input-limits, step-limits}
+use Rattle.reader.proofs.Limits.{clause-limits, input-limits, step-limits}
 use Rattle.reader.proofs.StateCode.{zero-or, sym-passed}
 
 pub fresh-represents : (text : List ℕ) → Represents text freshState fresh
 unfolding freshState fresh heldTable clauses
-fresh-represents text = record { room = (refl, refl); table = refl; symbols = refl; inputs = refl; count = refl; places = λ n h. absurd (omega arith) }
+fresh-represents text = record { room = (refl, refl, refl, refl); table = refl; symbols = refl; inputs = refl; count = refl; places = λ n h. absurd (omega arith); sizes = λ n h. absurd (omega arith) }
 
 -- Empty lists, by their lengths.
 no-clauses : (is : List Clause) (ss : List Step) → eqb (length (is ++ map claimOf ss)) 0 ≡ isEmpty is && isEmpty ss
@@ -63,10 +60,6 @@ rotate false true true = refl
 rotate false true false = refl
 rotate false false c = refl
 
-failure-passed : (held : code.State) (start : ℕ) (l : LineAt) (f : ℕ) → passed held start l f .failure ≡ f
-unfolding passed
-failure-passed held start l f = onTest (λ (r : Read). r .failure ≡ f) (eqb f 0) (λ _. refl) (λ _. refl)
-
 module _ {text : List ℕ} {held : code.State} {st : State} (R : Represents text held st) (full : held .clauses < 1024) (bytes : List ℕ) (start : ℕ) where
   held-failure : (r : Reading) → failureOf (held .symbols) (held .clauses) (held .inputs) (hasConstant (st .symbols)) (lineOf (st .symbols) bytes r) ≡ readFailure st r
   unfolding failureOf failureIn clauseFailure readFailure lineFailure lineOf ordered constantReady withinLimits symbolsDeclared office clauses stepMeasure joined clauseMeasure termsMeasure
@@ -75,36 +68,40 @@ module _ {text : List ℕ} {held : code.State} {st : State} (R : Represents text
   held-failure (form (input c)) = rw (lt-ltb (held .clauses) 1024 full, R .count, R .inputs, no-steps (st .inputs) (st .steps), input-limits (st .symbols) bytes c)
   held-failure (form (by s)) = rw (lt-ltb (held .clauses) 1024 full, step-limits (st .symbols) bytes s, rotate (eachClause any (declares (st .symbols)) (s .claim)) (eachTerms any (declares (st .symbols)) (s .first)) (eachTerms any (declares (st .symbols)) (s .second)))
 
-  pub line-failure : readLineAt held bytes start .failure ≡ readFailure st (readLine 16 bytes)
-  unfolding readLineAt readOn
-  line-failure = failure-passed held start _ _ ∙ rw (R .table) (held-failure (readLine 16 bytes))
+  pub line-seen : seenAt (heldTable held) (held .symbols) (held .clauses) (held .inputs) bytes ≡ record { failure = readFailure st (readLine 16 bytes); line = lineOf (st .symbols) bytes (readLine 16 bytes) }
+  unfolding seenAt
+  line-seen = rw (R .table, held-failure (readLine 16 bytes))
 
-  -- "comes back after each line": the state after a line that passes, and whether it is a step.
-  pub line-passed : readFailure st (readLine 16 bytes) ≡ 0 → readLineAt held bytes start ≡ record { failure = 0; by = isBy (lineOf (st .symbols) bytes (readLine 16 bytes) .form); state = advanced held start (lineOf (st .symbols) bytes (readLine 16 bytes)) (lineOf (st .symbols) bytes (readLine 16 bytes) .form) }
-  unfolding readLineAt readOn passed
-  line-passed e = rw (R .table, held-failure (readLine 16 bytes) ∙ e)
+-- What holds of each number held and its clause holds with one more of both.
+module _ (cs : List Clause) (c : Clause) (xs : List ℕ) (x n : ℕ) (count : n ≡ length cs) (room : n < length xs) (Q : ℕ → Clause → Type 0) (new : Q x c) (old : (m : ℕ) → m < length cs → Q (getD xs m 0) (getD cs m [])) where
+  new-held : Q (getD (set xs n x) (length cs) 0) (getD (cs ++ (c ∷ [])) (length cs) [])
+  new-held = rw (← count, getD-set-same xs n x 0 room, count, getD-append-seam cs c [] []) new
+
+  old-held : (m : ℕ) → m < length cs → Q (getD (set xs n x) m 0) (getD (cs ++ (c ∷ [])) m [])
+  old-held m h = rw (getD-set-other xs n m x 0 (λ q. omega (arith, count)), List·getD-append cs (c ∷ []) [] m h) (old m h)
+
+  each-held : (ds : List Clause) → ds ≡ cs ++ (c ∷ []) → (m : ℕ) → m < length ds → Q (getD (set xs n x) m 0) (getD ds m [])
+  each-held ds e m h = go (ℕ-discrete m (length cs))
+    where
+      go : Dec (m ≡ length cs) → Q (getD (set xs n x) m 0) (getD ds m [])
+      go (yes q) = rw (q, e) new-held
+      go (no q) = rw e (old-held m (omega (arith, ap length e, length-append cs (c ∷ []))))
 
 -- One clause more.
-clause-added : {text : List ℕ} {held : code.State} {st st' : State} {c : Clause} {at inputs : ℕ} → Represents text held st → held .clauses < 1024 → Stands text at c → st' .symbols ≡ st .symbols → clauses st' ≡ clauses st ++ (c ∷ []) → inputs ≡ length (st' .inputs) → Represents text (withClause held at inputs) st'
+clause-added : {text : List ℕ} {held : code.State} {st st' : State} {c : Clause} {at literals wide inputs : ℕ} → Represents text held st → held .clauses < 1024 → Stands text at c → literals ≡ length c → wide ≡ width c → st' .symbols ≡ st .symbols → clauses st' ≡ clauses st ++ (c ∷ []) → inputs ≡ length (st' .inputs) → Represents text (withClause held at literals wide inputs) st'
 unfolding heldTable
-clause-added {text} {held} {st} {st'} {c} {at} {inputs} R full S t e i = record {
-  room = (R .room .0, length-set (held .starts) (held .clauses) at ∙ R .room .1);
+clause-added {text} {held} {st} {st'} {c} {at} {literals} {wide} {inputs} R full S el ew t e i = record {
+  room = (R .room .0, length-set (held .starts) (held .clauses) at ∙ R .room .1, length-set (held .literals) (held .clauses) literals ∙ R .room .2, length-set (held .widths) (held .clauses) wide ∙ R .room .3);
   table = R .table ∙ sym t;
   symbols = R .symbols ∙ ap length (sym t);
   inputs = i;
   count = rw (e, R .count, length-append) refl;
-  places = λ n h. go n (ℕ-discrete n (length (clauses st))) h;
+  places = each-held (clauses st) c (held .starts) at (held .clauses) (R .count) (omega (arith, R .room .1)) (λ m d. Stands text m d) S (R .places) (clauses st') e;
+  sizes = λ n h. (
+    each-held (clauses st) c (held .literals) literals (held .clauses) (R .count) (omega (arith, R .room .2)) (λ m d. m ≡ length d) el (λ m k. R .sizes m k .0) (clauses st') e n h,
+    each-held (clauses st) c (held .widths) wide (held .clauses) (R .count) (omega (arith, R .room .3)) (λ m d. m ≡ width d) ew (λ m k. R .sizes m k .1) (clauses st') e n h,
+  );
 }
-  where
-    here : Stands text (getD (set (held .starts) (held .clauses) at) (length (clauses st)) 0) (getD (clauses st ++ (c ∷ [])) (length (clauses st)) [])
-    here = rw (← R .count, getD-set-same (held .starts) (held .clauses) at 0 (omega (arith, R .room .1)), R .count, getD-append-seam (clauses st) c [] []) S
-
-    before : (n : ℕ) → n < length (clauses st) → Stands text (getD (set (held .starts) (held .clauses) at) n 0) (getD (clauses st ++ (c ∷ [])) n [])
-    before n h = rw (getD-set-other (held .starts) (held .clauses) n at 0 (λ q. omega (arith, R .count)), List·getD-append (clauses st) (c ∷ []) [] n h) (R .places n h)
-
-    go : (n : ℕ) → Dec (n ≡ length (clauses st)) → n < length (clauses st') → Stands text (getD (set (held .starts) (held .clauses) at) n 0) (getD (clauses st') n [])
-    go n (yes q) h = rw (q, e) here
-    go n (no q) h = rw e (before n (omega (arith, ap length e, length-append (clauses st) (c ∷ []))))
 
 -- A clause of a line stands in the text where the line does.
 clause-stands : (text bytes rest : List ℕ) (start at : ℕ) (c : Clause) → start ≤ length text → drop start text ≡ bytes ++ rest → at ≤ length bytes → drop at bytes ≡ fromClause c → length text ≤ 65535 → T (formedClause 16 c) → T (clauseFits office c) → Stands text (placed start at) c
@@ -117,12 +114,13 @@ clause-stands text bytes rest start at c l d k f small formed fits =
 symbol-added : {text : List ℕ} {held : code.State} {st : State} (k : ℕ) → Represents text held st → held .symbols < 256 → Represents text (withSymbol held k) (advance st (syntax.sym k))
 unfolding heldTable advance clauses
 symbol-added {text} {held} {st} k R less = record {
-  room = (length-set (held .counts) (held .symbols) k ∙ R .room .0, R .room .1);
+  room = (length-set (held .counts) (held .symbols) k ∙ R .room .0, R .room .1, R .room .2, R .room .3);
   table = rw (add-one, take-suc-set (held .counts) (held .symbols) k (omega (arith, R .room .0))) (ap (λ x. x ++ (k ∷ [])) (R .table));
   symbols = rw (R .symbols, length-append) refl;
   inputs = R .inputs;
   count = R .count;
   places = R .places;
+  sizes = R .sizes;
 }
 
 -- The clauses after one more line.
@@ -171,14 +169,29 @@ module _ {text : List ℕ} {held : code.State} {st : State} (R : Represents text
   unfolding readFailure lineFailure ordered
   unstepped c e = zero-or (isEmpty (st .steps)) _ 3 (λ h. omega arith) (sym (ap (readFailure st) e) ∙ passes) .0
 
-  state-after : (r : Reading) → readLine 16 bytes ≡ r → Represents text (advanced held start (lineOf (st .symbols) bytes r) (lineOf (st .symbols) bytes r .form)) (after st r)
-  unfolding after lineOf advanced advance
-  state-after noForm e = R
-  state-after (form (syntax.sym k)) e = symbol-added k R (sym-passed (held .symbols) (held .clauses) (held .inputs) (hasConstant (st .symbols)) _ refl (held-passes (form (syntax.sym k)) e) .0)
-  state-after (form (input c)) e =
-      clause-added R full (stands (placeOf bytes (fromClause c)) (omega arith) (rw e at (input-place 16 (st .symbols) bytes e)) (input-fits c e .0) (input-fits c e .1)) refl (input-clauses st c (unstepped c e)) (rw (R .inputs, length-append) refl)
-  state-after (form (by s)) e =
-      clause-added R full (stands (placeOf bytes (fromClause (s .claim))) (omega arith) (rw e at (claim-place 16 (st .symbols) bytes e)) (step-fits s e .0) (step-fits s e .1)) refl (step-clauses st s) (R .inputs)
+  -- within 255
+  small-byte : {n : ℕ} → n ≤ 32 → byteOf n ≡ n
+  unfolding byteOf
+  small-byte {n} h = rw (le-leb n 255 (omega arith))
 
-  pub line-state : Represents text (readLineAt held bytes start .state) (after st (readLine 16 bytes))
-  line-state = rw (line-passed R full bytes start passes) (state-after (readLine 16 bytes) refl)
+  input-counted : countedIn (held .inputs) true ≡ held .inputs + 1
+  unfolding countedIn clauses
+  input-counted = rw (lt-ltb (held .inputs) 1024 (omega (arith, full, R .count, R .inputs, length-append (st .inputs) (map claimOf (st .steps)))))
+
+  state-after : (r : Reading) → readLine 16 bytes ≡ r → Represents text (withAdded held (addedBy start (lineOf (st .symbols) bytes r))) (after st r)
+  unfolding after lineOf withAdded addedBy formNumber advance readFailure clauseMeasure stepMeasure joined countedIn
+  state-after noForm e = absurd (omega (arith, sym (ap (readFailure st) e) ∙ passes))
+  state-after (form (syntax.sym k)) e =
+      let room = sym-passed (held .symbols) (held .clauses) (held .inputs) (hasConstant (st .symbols)) _ refl (held-passes (form (syntax.sym k)) e) in
+      rw (small-byte {n = k} (omega (arith, room .1))) (symbol-added k R (room .0))
+  state-after (form (input c)) e =
+      let w = clause-limits c .0 (input-fits c e .1) in
+      clause-added R full (stands (placeOf bytes (fromClause c)) (omega arith) (rw e at (input-place 16 (st .symbols) bytes e)) (input-fits c e .0) (input-fits c e .1))
+      (small-byte (w .0)) (small-byte (w .2)) refl (input-clauses st c (unstepped c e)) (input-counted ∙ rw (R .inputs, length-append) refl)
+  state-after (form (by s)) e =
+      let w = clause-limits (s .claim) .0 (step-fits s e .1) in
+      clause-added R full (stands (placeOf bytes (fromClause (s .claim))) (omega arith) (rw e at (claim-place 16 (st .symbols) bytes e)) (step-fits s e .0) (step-fits s e .1))
+      (small-byte (w .0)) (small-byte (w .2)) refl (step-clauses st s) (R .inputs)
+
+  pub line-state : Represents text (withAdded held (addedBy start (lineOf (st .symbols) bytes (readLine 16 bytes)))) (after st (readLine 16 bytes))
+  line-state = state-after (readLine 16 bytes) refl

@@ -66,7 +66,7 @@ clause-arguments F (lit g x ∷ c) = (
 )
 
 -- The limits of a clause and of a list.
-clause-limits : (c : Clause) → T (clauseFits office c) ↔ (length c ≤ 32) × (mostArguments c ≤ 8) × (width c ≤ 32)
+pub clause-limits : (c : Clause) → T (clauseFits office c) ↔ (length c ≤ 32) × (mostArguments c ≤ 8) × (width c ≤ 32)
 unfolding clauseFits office
 clause-limits c = (
   λ h. let (a, b) = simp T-and at h in (leb→le (length c) 32 a, clause-arguments office c .0 (b .0), clause-below 32 c .0 (b .1)),

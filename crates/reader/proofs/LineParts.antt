@@ -56,7 +56,7 @@ unfolding whole
 line-whole table s (lost b l) q = absurd (omega arith)
 line-whole table s {e} (found x g l r) q = r q ∙ rw (g, past s e (omega arith))
 
-pub line-broken : (table s : List ℕ) {p : Parsed Line} {e : ℕ} {R : Line → Type 0} → Track s R p e → (e ≡ length s → ⊥) → shortLine NoForm 0 0 empty ≡ lineOf table s (whole p)
+pub line-broken : (table s : List ℕ) {p : Parsed Line} {e : ℕ} {R : Line → Type 0} → Track s R p e → (e ≡ length s → ⊥) → shortLine NoForm 0 0 0 empty ≡ lineOf table s (whole p)
 unfolding whole lineOf
 line-broken table s (lost b l) n = rw b
 line-broken table s {e} (found x g l r) n = rw (g, at-byte s e (omega arith))
@@ -67,8 +67,8 @@ rule-value s h e = ap (λ (r : RuleAt). r .rule) h ∙ ap (readOr Eli (λ x. x))
 -- The parts of a step as they were read are the parts of the line.
 step-path : (table s : List ℕ) (st : Step) {v : Rule} {a i b j k first second claim : ℕ} {m mf mg mc : Measure} {r₁ r₂ r₃ : List ℕ} → v ≡ st .rule → a ≡ st .a → i ≡ st .i → b ≡ st .b → j ≡ st .j → k ≡ st .k → first ≤ length s → second ≤ length s → claim ≤ length s
     → drop first s ≡ putLet (st .first) r₁ → r₁ ≡ word " " (drop second s) → drop second s ≡ putLet (st .second) r₂ → r₂ ≡ word " " (drop claim s) → drop claim s ≡ putClause (st .claim) r₃ → r₃ ≡ word ")" []
-    → mf ≡ termsMeasure table (st .first) → mg ≡ termsMeasure table (st .second) → mc ≡ clauseMeasure table (st .claim) → m ≡ joined mc (joined mf mg) → record { form = By; rule = v; a = a; i = i; b = b; j = j; k = k; first = first; second = second; clause = claim; firsts = mf .count; seconds = mg .count; measure = m } ≡ lineOf table s (form (by st))
-unfolding lineOf stepMeasure fromFirst fromSecond fromClause termsMeasure
+    → mf ≡ termsMeasure table (st .first) → mg ≡ termsMeasure table (st .second) → mc ≡ clauseMeasure table (st .claim) → m ≡ joined mc (joined mf mg) → record { form = By; rule = v; a = a; i = i; b = b; j = j; k = k; first = first; second = second; clause = claim; width = mc .width; firsts = mf .count; seconds = mg .count; measure = m } ≡ lineOf table s (form (by st))
+unfolding lineOf stepMeasure fromFirst fromSecond fromClause termsMeasure clauseMeasure
 step-path table s st ev ea ei eb ej ek n₁ n₂ n₃ p₁ q₁ p₂ q₂ p₃ q₃ ef eg ec em =
     let c = p₃ ∙ ap (putClause (st .claim)) q₃ in
     let b = p₂ ∙ ap (putLet (st .second)) (q₂ ∙ ap (word " ") c) in
@@ -77,7 +77,7 @@ step-path table s st ev ea ei eb ej ek n₁ n₂ n₃ p₁ q₁ p₂ q₂ p₃ q
     let q = place s n₂ b in
     let r = place s n₃ c in
     let m = em ∙ ap₂ joined ec (ap₂ joined ef eg) in
-    λ t. record { form = By; rule = ev t; a = ea t; i = ei t; b = eb t; j = ej t; k = ek t; first = p t; second = q t; clause = r t; firsts = ef t .count; seconds = eg t .count; measure = m t }
+    λ t. record { form = By; rule = ev t; a = ea t; i = ei t; b = eb t; j = ej t; k = ek t; first = p t; second = q t; clause = r t; width = ec t .width; firsts = ef t .count; seconds = eg t .count; measure = m t }
 
 -- A number after one space, and then what follows.
 onward-number : {C : Type 0} (s : List ℕ) (at : ℕ) {e' : ℕ} {R : C → Type 0} {p : Parsed C} {n : NumberAt} (f : ℕ → Reader C) → n ≡ numberAt s (readSpaced (drop at s)) → p ≡ after (strip (bytes " ") (drop at s)) (λ _ rest. after (readNumber rest) f) → (n .end ≡ length s + 1 → e' ≡ length s + 1) → ((v : ℕ) → n .value ≡ v → p ≡ f v (drop (n .end) s) → Track s R p e') → Track s R p e'
@@ -85,21 +85,21 @@ unfolding readSpaced
 onward-number s at f h w l k = onward s at f spaced-stops (number-end h) (w ∙ sym (after-after (strip (bytes " ") (drop at s)) (λ _. readNumber) f)) l (λ v g _ _ w. k v (number-value s h g) w)
 
 module _ (table s : List ℕ) (at : ℕ) where
-  pub sym-track : {k : NumberAt} {e : ℕ} → k ≡ numberAt s (readNumber (drop at s)) → e ≡ endOf s (strip (bytes ")") (drop (k .end) s)) → Track s (λ x. e ≡ length s → shortLine Sym (k .value) 0 empty ≡ lineOf table s (form x)) (readSym (drop at s)) e
+  pub sym-track : {k : NumberAt} {e : ℕ} → k ≡ numberAt s (readNumber (drop at s)) → e ≡ endOf s (strip (bytes ")") (drop (k .end) s)) → Track s (λ x. e ≡ length s → shortLine Sym (k .value) 0 0 empty ≡ lineOf table s (form x)) (readSym (drop at s)) e
   unfolding readSym lineOf
   sym-track {k} h i =
       onward s at _ number-stops (number-end h) refl (lose s (word-stops 41 []) i)
       λ v g _ _ w. onward s (k .end) _ (word-stops 41 []) i w (λ l. l)
-      λ _ _ _ l w. found (syntax.sym v) w l (λ _. ap (λ n. shortLine Sym n 0 empty) (number-value s h g))
+      λ _ _ _ l w. found (syntax.sym v) w l (λ _. ap (λ n. shortLine Sym n 0 0 empty) (number-value s h g))
 
-  pub input-track : (d : ℕ) {c : Summary} {e : ℕ} → c ≡ summary (clauseMeasure table) s (readClause d (drop at s)) → e ≡ endOf s (strip (bytes ")") (drop (c .end) s)) → Track s (λ x. e ≡ length s → shortLine Input 0 at (c .measure) ≡ lineOf table s (form x)) (readInput d (drop at s)) e
-  unfolding readInput lineOf fromClause
+  pub input-track : (d : ℕ) {c : Summary} {e : ℕ} → c ≡ summary (clauseMeasure table) s (readClause d (drop at s)) → e ≡ endOf s (strip (bytes ")") (drop (c .end) s)) → Track s (λ x. e ≡ length s → shortLine Input 0 at (c .measure .width) (c .measure) ≡ lineOf table s (form x)) (readInput d (drop at s)) e
+  unfolding readInput lineOf fromClause clauseMeasure
   input-track d {c} {e} h i =
       onward s at _ (clause-stops d) (ending h) refl (lose s (word-stops 41 []) i)
       λ c₁ g m n w. onward s (c .end) _ (word-stops 41 []) i w (λ l. l)
       λ _ g₁ _ l w. found (input c₁) w l (λ q. rw (measuring (clauseMeasure table) s h g, ← place s {at = at} (omega arith) (given (clause-sound d .at (drop at s)) g .0 ∙ ap (putClause c₁) (stripped s (bytes ")") (c .end) e g₁ ∙ ap (λ r. 41 ∷ r) (past s e (omega arith))))))
 
-  pub step-track : (d : ℕ) {r : RuleAt} {a i b j k : NumberAt} {first second claim e : ℕ} {f g c : Summary} {m : Measure} → r ≡ ruleAt s (readRule (drop at s)) → a ≡ numberAt s (readSpaced (drop (r .end) s)) → i ≡ numberAt s (readSpaced (drop (a .end) s)) → b ≡ numberAt s (readSpaced (drop (i .end) s)) → j ≡ numberAt s (readSpaced (drop (b .end) s)) → k ≡ numberAt s (readSpaced (drop (j .end) s)) → first ≡ endOf s (strip (bytes " ") (drop (k .end) s)) → f ≡ summary (termsMeasure table) s (readLet d (drop first s)) → second ≡ endOf s (strip (bytes " ") (drop (f .end) s)) → g ≡ summary (termsMeasure table) s (readLet d (drop second s)) → claim ≡ endOf s (strip (bytes " ") (drop (g .end) s)) → c ≡ summary (clauseMeasure table) s (readClause d (drop claim s)) → e ≡ endOf s (strip (bytes ")") (drop (c .end) s)) → m ≡ joined (c .measure) (joined (f .measure) (g .measure)) → Track s (λ x. e ≡ length s → record { form = By; rule = r .rule; a = a .value; i = i .value; b = b .value; j = j .value; k = k .value; first = first; second = second; clause = claim; firsts = f .measure .count; seconds = g .measure .count; measure = m } ≡ lineOf table s (form x)) (readStep d (drop at s)) e
+  pub step-track : (d : ℕ) {r : RuleAt} {a i b j k : NumberAt} {first second claim e : ℕ} {f g c : Summary} {m : Measure} → r ≡ ruleAt s (readRule (drop at s)) → a ≡ numberAt s (readSpaced (drop (r .end) s)) → i ≡ numberAt s (readSpaced (drop (a .end) s)) → b ≡ numberAt s (readSpaced (drop (i .end) s)) → j ≡ numberAt s (readSpaced (drop (b .end) s)) → k ≡ numberAt s (readSpaced (drop (j .end) s)) → first ≡ endOf s (strip (bytes " ") (drop (k .end) s)) → f ≡ summary (termsMeasure table) s (readLet d (drop first s)) → second ≡ endOf s (strip (bytes " ") (drop (f .end) s)) → g ≡ summary (termsMeasure table) s (readLet d (drop second s)) → claim ≡ endOf s (strip (bytes " ") (drop (g .end) s)) → c ≡ summary (clauseMeasure table) s (readClause d (drop claim s)) → e ≡ endOf s (strip (bytes ")") (drop (c .end) s)) → m ≡ joined (c .measure) (joined (f .measure) (g .measure)) → Track s (λ x. e ≡ length s → record { form = By; rule = r .rule; a = a .value; i = i .value; b = b .value; j = j .value; k = k .value; first = first; second = second; clause = claim; width = c .measure .width; firsts = f .measure .count; seconds = g .measure .count; measure = m } ≡ lineOf table s (form x)) (readStep d (drop at s)) e
   unfolding readStep
   step-track d {r} {a} {i} {b} {j} {k} {first} {second} {claim} {e} {f} {g} {c} {m} hr ha hi hb hj hk h₁ hf h₂ hg h₃ hc h₄ hm =
       let hr' : r .end ≡ endOf s (readRule (drop at s)) = ap (λ (r : RuleAt). r .end) hr in

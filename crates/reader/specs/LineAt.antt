@@ -5,6 +5,7 @@ use lib.ListN.{length}
 use Rattle.logic.specs.declared.Rule.the-variants.{Refl}
 use Rattle.logic.specs.Syntax.{Clause, Step, sym, input, by}
 use Rattle.logic.specs.Terms.{count}
+use Rattle.logic.specs.Each.{width}
 use Rattle.reader.specs.declared.summaries.Measure.{Measure}
 use Rattle.reader.specs.declared.forms.Form.{Form}
 use Rattle.reader.specs.declared.forms.Form.the-variants.{NoForm, Sym, Input, By}
@@ -12,6 +13,13 @@ use Rattle.reader.specs.declared.forms.LineAt.{LineAt}
 use Rattle.reader.specs.Write.{word, putClause, putLet}
 use Rattle.reader.specs.Read.{Reader, _>>_, skip, readNumber, Reading, form, noForm}
 use Rattle.reader.specs.Summary.{empty, joined, termsMeasure, clauseMeasure}
+
+-- The forms by number.
+unfoldable pub formNumber : Form → ℕ
+formNumber NoForm = 0
+formNumber Sym = 1
+formNumber Input = 2
+formNumber By = 3
 
 -- A number after one space.
 unfoldable pub readSpaced : Reader ℕ
@@ -31,8 +39,8 @@ fromFirst st = putLet (st .first) (word " " (fromSecond st))
 abbrev pub placeOf : List ℕ → List ℕ → ℕ
 placeOf s rest = length s - length rest
 
-abbrev pub shortLine : Form → ℕ → ℕ → Measure → LineAt
-shortLine f k clause m = record {
+abbrev pub shortLine : Form → ℕ → ℕ → ℕ → Measure → LineAt
+shortLine f k clause w m = record {
   form = f;
   rule = Refl;
   a = 0;
@@ -43,6 +51,7 @@ shortLine f k clause m = record {
   first = 0;
   second = 0;
   clause = clause;
+  width = w;
   firsts = 0;
   seconds = 0;
   measure = m;
@@ -53,9 +62,9 @@ unfoldable pub stepMeasure : List ℕ → Step → Measure
 stepMeasure table st = joined (clauseMeasure table (st .claim)) (joined (termsMeasure table (st .first)) (termsMeasure table (st .second)))
 
 unfoldable pub lineOf : List ℕ → List ℕ → Reading → LineAt
-lineOf table s noForm = shortLine NoForm 0 0 empty
-lineOf table s (form (sym k)) = shortLine Sym k 0 empty
-lineOf table s (form (input c)) = shortLine Input 0 (placeOf s (fromClause c)) (clauseMeasure table c)
+lineOf table s noForm = shortLine NoForm 0 0 0 empty
+lineOf table s (form (sym k)) = shortLine Sym k 0 0 empty
+lineOf table s (form (input c)) = shortLine Input 0 (placeOf s (fromClause c)) (width c) (clauseMeasure table c)
 lineOf table s (form (by st)) = record {
   form = By;
   rule = st .rule;
@@ -67,6 +76,7 @@ lineOf table s (form (by st)) = record {
   first = placeOf s (fromFirst st);
   second = placeOf s (fromSecond st);
   clause = placeOf s (fromClause (st .claim));
+  width = width (st .claim);
   firsts = count (st .first);
   seconds = count (st .second);
   measure = stepMeasure table st;

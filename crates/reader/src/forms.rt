@@ -13,7 +13,7 @@ ghost use mathlib.Core.Path.{_≡_};
 ghost use lib.ListN.{drop};
 ghost use Rattle.reader.specs.Read.{readSym, readInput, readStep, whole, readLine};
 ghost use Rattle.reader.specs.Places.{numberAt};
-ghost use Rattle.reader.specs.LineAt.{readSpaced, shortLine, lineOf};
+ghost use Rattle.reader.specs.LineAt.{formNumber, readSpaced, shortLine, lineOf};
 
 // Terms nest at most 16 terms deep.
 pub const DEPTH: usize = 16;
@@ -25,7 +25,25 @@ pub enum Form {
     By,
 }
 
-// The places are those of the first list, the second list and the clause. The measure counts the clause's literals.
+// The forms by number.
+pub const SYM: usize = 1;
+
+pub const INPUT: usize = 2;
+
+pub const STEP: usize = 3;
+
+pub fn form_number(f: Form) -> usize
+    ensures { λ r. ⌜ r ≡ formNumber f ⌝ }
+{
+    match f {
+        Form::NoForm => 0,
+        Form::Sym => SYM,
+        Form::Input => INPUT,
+        Form::By => STEP,
+    }
+}
+
+// The places are those of the first list, the second list and the clause; the width is the clause's highest variable plus 1. The measure counts the clause's literals.
 pub struct LineAt {
     pub form: Form,
     pub rule: Rule,
@@ -37,14 +55,15 @@ pub struct LineAt {
     pub first: usize,
     pub second: usize,
     pub clause: usize,
+    pub width: usize,
     pub firsts: usize,
     pub seconds: usize,
     pub measure: Measure,
 }
 
-// A line of which only its form, k, the place of a clause and its measure are to be said.
-fn short(form: Form, k: usize, clause: usize, m: Measure) -> LineAt
-    ensures { λ r. ⌜ r ≡ shortLine form k clause m ⌝ }
+// A line of which only its form, k, the place of a clause, its width and its measure are to be said.
+fn short(form: Form, k: usize, clause: usize, width: usize, m: Measure) -> LineAt
+    ensures { λ r. ⌜ r ≡ shortLine form k clause width m ⌝ }
 {
     LineAt {
         form,
@@ -57,6 +76,7 @@ fn short(form: Form, k: usize, clause: usize, m: Measure) -> LineAt
         first: 0,
         second: 0,
         clause,
+        width,
         firsts: 0,
         seconds: 0,
         measure: m,
@@ -70,9 +90,9 @@ fn sym_line(s: &[u8], at: usize, table: &[u8]) -> LineAt
     let k = number(s, at);
     let e = word(s, k.end, b")");
     if e == s.len() {
-        short(Form::Sym, k.value, 0, none())
+        short(Form::Sym, k.value, 0, 0, none())
     } else {
-        short(Form::NoForm, 0, 0, none())
+        short(Form::NoForm, 0, 0, 0, none())
     }
 }
 
@@ -81,11 +101,12 @@ fn input_line(s: &[u8], at: usize, depth: usize, table: &[u8]) -> LineAt
     ensures { λ r. ⌜ r ≡ lineOf (now (table .entry)) (now (s .entry)) (whole (readInput depth (drop at (now (s .entry))))) ⌝ }
 {
     let c = clause(s, at, depth, table);
+    let m = c.measure;
     let e = word(s, c.end, b")");
     if e == s.len() {
-        short(Form::Input, 0, at, c.measure)
+        short(Form::Input, 0, at, m.width, m)
     } else {
-        short(Form::NoForm, 0, 0, none())
+        short(Form::NoForm, 0, 0, 0, none())
     }
 }
 
@@ -114,11 +135,12 @@ fn step_line(s: &[u8], at: usize, depth: usize, table: &[u8]) -> LineAt
     let c = clause(s, claim, depth, table);
     let e = word(s, c.end, b")");
     if e != s.len() {
-        return short(Form::NoForm, 0, 0, none());
+        return short(Form::NoForm, 0, 0, 0, none());
     }
     let firsts = f.measure;
     let seconds = g.measure;
-    let measure = join(c.measure, join(firsts, seconds));
+    let claimed = c.measure;
+    let measure = join(claimed, join(firsts, seconds));
     let rule = r.rule;
     LineAt {
         form: Form::By,
@@ -131,6 +153,7 @@ fn step_line(s: &[u8], at: usize, depth: usize, table: &[u8]) -> LineAt
         first,
         second,
         clause: claim,
+        width: claimed.width,
         firsts: firsts.count,
         seconds: seconds.count,
         measure,

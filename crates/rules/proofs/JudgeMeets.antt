@@ -20,6 +20,7 @@ use Rattle.logic.specs.Rules.{uses, always, plus, Parent, filled}
 use Rattle.logic.specs.Judge.{parentClause, parentA, parentB, below, parentsBelow, unusedZero, firstLength, listsFit, numbersRight, withNew, conclude, conclusion, judgeConclusion, judge}
 use Rattle.logic.proofs.Both.{left, right}
 use Rattle.logic.proofs.Over.{Over, fill-over}
+use Rattle.reader.specs.declared.forms.LineAt.{LineAt}
 use Rattle.reader.specs.declared.states.State as code
 use Rattle.reader.specs.Words.{bytes}
 use Rattle.reader.specs.Write.{word, putLet, putTerms}
@@ -38,11 +39,11 @@ use Rattle.rules.specs.Uses.{parentNumbers, unusedNumbers}
 use Rattle.rules.specs.Claims.{othersAt}
 use Rattle.rules.specs.Shapes.{stripAt}
 use Rattle.rules.specs.Conclusions.{placeAt, secondAt}
-use Rattle.rules.specs.Judging.{partAt, measureAt, listAt, listsAt, concludeAt, settledAs, stepAt, partsAt, judgeAt, Judges}
+use Rattle.rules.specs.Judging.{partAt, sizeAt, listAt, listsAt, concludeAt, settledAs, stepAt, partsAt, judgeAt, Judges, JudgesRead}
 use Rattle.rules.proofs.Placing as placing
 use Rattle.rules.proofs.LineLists.{line-entry}
 use Rattle.rules.proofs.Meets.{Images}
-use Rattle.rules.proofs.Literals.{PartOf, unused, begins, part-measure}
+use Rattle.rules.proofs.Literals.{PartOf, unused, begins}
 use Rattle.rules.proofs.Concluded.{ClaimAt, concluded}
 use Rattle.rules.proofs.RowsMeet.{refl-meets}
 use Rattle.rules.proofs.StepMeets.{given-over, two-meets}
@@ -122,6 +123,12 @@ module _ {text : List ℕ} {held : code.State} {st : State} (R : Represents text
   part-of false n h = unused refl
   part-of true n h = let S = R .places n (ltb→lt n (length (clauses st)) h) in begins (S .rest) (S .written) (S .formed)
 
+  size-of : (used : Bool) (n : ℕ) → T (below (length (clauses st)) used n) →
+      (sizeAt (held .widths) used n ≡ width (parentClause (clauses st) used n)) × (sizeAt (held .literals) used n ≡ length (parentClause (clauses st) used n))
+  unfolding sizeAt parentClause below width
+  size-of false n h = (refl, refl)
+  size-of true n h = let S = R .sizes n (ltb→lt n (length (clauses st)) h) in (S .1, S .0)
+
   module _ (line : List ℕ) (s : Step) (e : readLine 16 line ≡ form (by s)) (passes : readFailure st (form (by s)) ≡ 0) where
     formed : T (formedStep 16 s)
     unfolding formedLine
@@ -169,22 +176,30 @@ module _ {text : List ℕ} {held : code.State} {st : State} (R : Represents text
     unfolding lineOf
     claim-at = record { stands = record { within = omega arith; bytes-there = rw e at (claim-place 16 [] line e) }; over = formed-over 16 (s .claim) (lists-formed .2) }
 
-    module _ (P : PartOf (partAt text (held .starts) (uses (s .rule) .a) (s .a)) (parentClause (clauses st) (uses (s .rule) .a) (s .a)))
-        (Q : PartOf (partAt text (held .starts) (uses (s .rule) .b) (s .b)) (parentClause (clauses st) (uses (s .rule) .b) (s .b))) where
+    module _ (b : T (parentsBelow (clauses st) s)) where
+      below-a : T (below (length (clauses st)) (uses (s .rule) .a) (s .a))
+      unfolding parentsBelow
+      below-a = left (below (length (clauses st)) (uses (s .rule) .a) (s .a)) (below (length (clauses st)) (uses (s .rule) .b) (s .b)) b
+
+      below-b : T (below (length (clauses st)) (uses (s .rule) .b) (s .b))
+      unfolding parentsBelow
+      below-b = right (below (length (clauses st)) (uses (s .rule) .a) (s .a)) (below (length (clauses st)) (uses (s .rule) .b) (s .b)) b
+
       -- Check 8.
       numbers-same : unusedNumbers (s .rule) (s .a) (s .i) (s .b) (s .j) (s .k)
-          && listsAt (s .rule) (count (s .first)) (count (s .second)) (measureAt (partAt text (held .starts) (uses (s .rule) .a) (s .a)) .width) (measureAt (partAt text (held .starts) (uses (s .rule) .b) (s .b)) .width) ≡
-          numbersRight (clauses st) s
+          && listsAt (s .rule) (count (s .first)) (count (s .second)) (sizeAt (held .widths) (uses (s .rule) .a) (s .a)) (sizeAt (held .widths) (uses (s .rule) .b) (s .b)) ≡ numbersRight (clauses st) s
       unfolding unusedNumbers listsAt numbersRight unusedZero listsFit firstLength parentA parentB
-      numbers-same = rw (part-measure P .0, part-measure Q .0)
+      numbers-same = rw (size-of (uses (s .rule) .a) (s .a) below-a .0, size-of (uses (s .rule) .b) (s .b) below-b .0)
 
       -- Checks 9 to 11, where the numbers are right.
       rest-same : T (numbersRight (clauses st) s) →
-          concludeAt (s .rule) (s .k) (partAt text (held .starts) (uses (s .rule) .a) (s .a)) (measureAt (partAt text (held .starts) (uses (s .rule) .a) (s .a)) .count) (s .i) line (listAt line (placeOf line (fromFirst s)))
-          (partAt text (held .starts) (uses (s .rule) .b) (s .b)) (measureAt (partAt text (held .starts) (uses (s .rule) .b) (s .b)) .count) (s .j) (listAt line (placeOf line (fromSecond s))) (placeOf line (fromClause (s .claim))) ≡
+          concludeAt (s .rule) (s .k) (partAt text (held .starts) (uses (s .rule) .a) (s .a)) (sizeAt (held .literals) (uses (s .rule) .a) (s .a)) (s .i) line (listAt line (placeOf line (fromFirst s)))
+          (partAt text (held .starts) (uses (s .rule) .b) (s .b)) (sizeAt (held .literals) (uses (s .rule) .b) (s .b)) (s .j) (listAt line (placeOf line (fromSecond s))) (placeOf line (fromClause (s .claim))) ≡
           judgeConclusion (conclusion (clauses st) s) (s .claim)
       unfolding numbersRight listsFit conclusion parentA parentB
       rest-same h =
+          let P = part-of (uses (s .rule) .a) (s .a) below-a in
+          let Q = part-of (uses (s .rule) .b) (s .b) below-b in
           let fit = right (unusedZero s) (listsFit (clauses st) s) h in
           let c = parentClause (clauses st) (uses (s .rule) .a) (s .a) in
           let d = parentClause (clauses st) (uses (s .rule) .b) (s .b) in
@@ -192,24 +207,20 @@ module _ {text : List ℕ} {held : code.State} {st : State} (R : Represents text
           let two : count (s .second) ≡ width d = eqb→eq _ _ (right (eqb (count (s .first)) (firstLength (s .rule) c)) (eqb (count (s .second)) (width d)) fit) in
           let numbers = list-numbered (s .first) (lists-formed .0) in
           let numbers′ = list-numbered (s .second) (lists-formed .1) in
-          rw (part-measure P .1, part-measure Q .1)
+          rw (size-of (uses (s .rule) .a) (s .a) below-a .1, size-of (uses (s .rule) .b) (s .b) below-b .1)
           (conclude-meets (clauses st) (s .a) (s .b) (entries (s .first)) (entries (s .second)) _ line _ _ _ claim-at (entries-over (s .first) numbers 0 tt) (s .i) (s .j) (s .k) (s .rule) P Q
           (subst (Images line _ (entries (s .first))) one first-images) (subst (Images line _ (entries (s .second))) two second-images)
           (filled-over c (s .first) (part-over P) numbers) (filled-over d (s .second) (part-over Q) numbers′))
 
     -- Demand 2, of the call: the answer is that of the definitions.
-    judged : judgeAt text held line ≡ judge (clauses st) s
-    unfolding judgeAt partsAt stepAt lineOf judge parentNumbers parentsBelow
-    judged =
-        rw (e, R .count)
-        (settled-same (parentsBelow (clauses st) s) (λ b. numbers-same (parent-a b) (parent-b b)) (λ b n. rest-same (parent-a b) (parent-b b) n))
-      where
-        parent-a : T (parentsBelow (clauses st) s) → PartOf (partAt text (held .starts) (uses (s .rule) .a) (s .a)) (parentClause (clauses st) (uses (s .rule) .a) (s .a))
-        parent-a b = part-of (uses (s .rule) .a) (s .a) (left (below (length (clauses st)) (uses (s .rule) .a) (s .a)) (below (length (clauses st)) (uses (s .rule) .b) (s .b)) b)
+    judged : (table : List ℕ) → partsAt text (held .starts) (held .literals) (held .widths) (held .clauses) line (lineOf table line (form (by s))) ≡ judge (clauses st) s
+    unfolding partsAt stepAt lineOf judge parentNumbers parentsBelow
+    judged table = rw (R .count) (settled-same (parentsBelow (clauses st) s) numbers-same rest-same)
 
-        parent-b : T (parentsBelow (clauses st) s) → PartOf (partAt text (held .starts) (uses (s .rule) .b) (s .b)) (parentClause (clauses st) (uses (s .rule) .b) (s .b))
-        parent-b b = part-of (uses (s .rule) .b) (s .b) (right (below (length (clauses st)) (uses (s .rule) .a) (s .a)) (below (length (clauses st)) (uses (s .rule) .b) (s .b)) b)
+pub read-meets : (text starts literals widths : List ℕ) (own : ℕ) (line : List ℕ) (l : LineAt) → JudgesRead text starts literals widths own line l (partsAt text starts literals widths own line l)
+unfolding JudgesRead
+read-meets text starts literals widths own line l held st s table a b c d q R e passes = rw (a, b, c, d, q) (judged R line s e passes table)
 
 pub judge-meets : (text : List ℕ) (held : code.State) (line : List ℕ) → Judges text held line (judgeAt text held line)
-unfolding Judges
-judge-meets text held line st s R e passes = judged R line s e passes
+unfolding Judges judgeAt
+judge-meets text held line st s R e passes = rw e (judged R line s e passes [])

@@ -16,10 +16,8 @@ use Rattle.logic.proofs.Both.{left, right}
 use Rattle.reader.specs.Words.{bytes}
 use Rattle.reader.specs.Write.{word, putLiteral, putLiterals, putClause}
 use Rattle.reader.specs.Form.{formedLiteral, formedClause}
-use Rattle.reader.specs.Read.{Parsed, bad, got, readClause, after, strip}
+use Rattle.reader.specs.Read.{Parsed, bad, got, after, strip}
 use Rattle.reader.specs.Access.{toItem, passItem, skipItem, howMany}
-use Rattle.reader.specs.Summary.{clauseMeasure}
-use Rattle.reader.proofs.Complete.{clause-complete}
 use Rattle.reader.proofs.Heads.{strip-same}
 use Rattle.reader.proofs.Nesting.{putEach, fromItem, clause-item, skip-literal, how-many}
 use Rattle.reader.proofs.Positions.{item-tail}
@@ -27,7 +25,6 @@ use Rattle.reader.specs.Places.{endOf}
 use Rattle.rules.specs.Shapes.{stripAt}
 use Rattle.rules.specs.Claims.{othersFrom, othersAt}
 use Rattle.rules.specs.Conclusions.{placeAt}
-use Rattle.rules.specs.Judging.{measureAt}
 use Rattle.rules.proofs.Placing.{Stands, walk-stands, walk-past, none-past, strip-stands}
 use Rattle.rules.proofs.Claimed.{withoutFrom, others-claimed}
 use Rattle.rules.proofs.Meets.{Images, LiteralAt}
@@ -162,12 +159,6 @@ module _ {p : List ℕ} where
   unfolding placeAt fromItem
   place-past (unused e) n d = rw e (nothing-past n)
   place-past (begins {c} rest e f) n d = walk-past p (stripAt p (bytes "(or") 0) (toItem n) (literals-stand c rest e) (clause-item c n rest ∙ ap (λ ls. fromItem putLiteral ls (word ")" rest)) d)
-
-  -- Its measure.
-  pub part-measure : {c : Clause} → PartOf p c → (measureAt p .width ≡ width c) × (measureAt p .count ≡ length c)
-  unfolding measureAt readClause strip clauseMeasure width
-  part-measure (unused e) = rw e (refl, refl)
-  part-measure (begins {c} rest e f) = rw (e, clause-complete 16 c f rest) (refl, refl)
 
   -- All its literals but one, expected.
   pub part-others : {c : Clause} → PartOf p c → {line starts : List ℕ} {σ : Substitution} → Images line starts σ (width c) → (dropped : ℕ) (target : List ℕ) (pos b : ℕ) (x : List ℕ) →

@@ -11,13 +11,11 @@ use Rattle.logic.specs.declared.Judged.the-variants.{Passed, NoParent, WrongNum
 use Rattle.logic.specs.Syntax.{Step, by}
 use Rattle.logic.specs.Rules.{uses}
 use Rattle.logic.specs.Judge.{judge}
-use Rattle.reader.specs.declared.summaries.Measure.{Measure}
 use Rattle.reader.specs.declared.forms.LineAt.{LineAt}
 use Rattle.reader.specs.declared.states.State as code
 use Rattle.reader.specs.Words.{bytes}
-use Rattle.reader.specs.Read.{readClause, form, readLine}
+use Rattle.reader.specs.Read.{form, readLine}
 use Rattle.reader.specs.Access.{places}
-use Rattle.reader.specs.Summary.{clauseMeasure, summary}
 use Rattle.reader.specs.LineAt.{lineOf}
 use Rattle.reader.specs.State.{State, clauses}
 use Rattle.reader.specs.Represents.{Represents, readFailure}
@@ -30,9 +28,9 @@ use Rattle.rules.specs.Conclusions.{placeAt, secondAt, claimAt}
 unfoldable pub partAt : List ℕ → List ℕ → Bool → ℕ → List ℕ
 partAt text starts used n = cond used (drop (getD starts n 0) text) []
 
--- Its number of literals and its highest variable plus 1.
-unfoldable pub measureAt : List ℕ → Measure
-measureAt p = summary (clauseMeasure []) p (readClause 16 p) .measure
+-- Its number of literals, or its highest variable plus 1; an unused parent has none.
+unfoldable pub sizeAt : List ℕ → Bool → ℕ → ℕ
+sizeAt sizes used n = cond used (getD sizes n 0) 0
 
 -- The places of the entries of the list that begins at `at`.
 unfoldable pub listAt : List ℕ → ℕ → List ℕ
@@ -63,24 +61,32 @@ concludeAt rule k p n i line starts q m j others pos =
 unfoldable pub settledAs : Bool → Bool → Judged → Judged
 settledAs parents numbers answer = cond parents (cond numbers answer WrongNumber) NoParent
 
--- A step, as it was read, with the parts of the text that begin with its parents; `own` is its own number.
-unfoldable pub stepAt : ℕ → List ℕ → List ℕ → List ℕ → LineAt → Judged
-stepAt own p q line l =
-    let a = measureAt p in
-    let b = measureAt q in
-    let numbers = unusedNumbers (l .rule) (l .a) (l .i) (l .b) (l .j) (l .k) && listsAt (l .rule) (l .firsts) (l .seconds) (a .width) (b .width) in
+-- A step, as it was read, with the parts of the text that begin with its parents, of n and m literals and of widths v and w; `own` is its own
+-- number.
+unfoldable pub stepAt : ℕ → List ℕ → ℕ → ℕ → List ℕ → ℕ → ℕ → List ℕ → LineAt → Judged
+stepAt own p n v q m w line l =
+    let numbers = unusedNumbers (l .rule) (l .a) (l .i) (l .b) (l .j) (l .k) && listsAt (l .rule) (l .firsts) (l .seconds) v w in
     settledAs (parentNumbers (l .rule) own (l .a) (l .b)) numbers
-    (concludeAt (l .rule) (l .k) p (a .count) (l .i) line (listAt line (l .first)) q (b .count) (l .j) (listAt line (l .second)) (l .clause))
+    (concludeAt (l .rule) (l .k) p n (l .i) line (listAt line (l .first)) q m (l .j) (listAt line (l .second)) (l .clause))
 
-unfoldable pub partsAt : List ℕ → code.State → List ℕ → LineAt → Judged
-partsAt text held line l =
-    stepAt (held .clauses) (partAt text (held .starts) (uses (l .rule) .a) (l .a)) (partAt text (held .starts) (uses (l .rule) .b) (l .b)) line l
+-- The parents by the places, the numbers of literals and the widths of the clauses before.
+unfoldable pub partsAt : List ℕ → List ℕ → List ℕ → List ℕ → ℕ → List ℕ → LineAt → Judged
+partsAt text starts literals widths own line l =
+    let a = uses (l .rule) .a in
+    let b = uses (l .rule) .b in
+    stepAt own (partAt text starts a (l .a)) (sizeAt literals a (l .a)) (sizeAt widths a (l .a)) (partAt text starts b (l .b)) (sizeAt literals b (l .b)) (sizeAt widths b (l .b)) line l
 
 unfoldable pub judgeAt : List ℕ → code.State → List ℕ → Judged
-judgeAt text held line = partsAt text held line (lineOf [] line (readLine 16 line))
+judgeAt text held line = partsAt text (held .starts) (held .literals) (held .widths) (held .clauses) line (lineOf [] line (readLine 16 line))
 
 -- "A step passes checks 7 to 11 exactly when document 01's rules give its claim from its parents by its numbers under its two lists":
 -- where the state represents what was read of the text, and the line is a step that passes checks 2 to 6, the answer is `judge`.
 unfoldable pub Judges : List ℕ → code.State → List ℕ → Judged → Type 0
 Judges text held line r =
     (st : State) (s : Step) → Represents text held st → readLine 16 line ≡ form (by s) → readFailure st (form (by s)) ≡ 0 → r ≡ judge (clauses st) s
+
+-- The same over the line as it was read, whichever the table was, by what a state holds of the clauses.
+unfoldable pub JudgesRead : List ℕ → List ℕ → List ℕ → List ℕ → ℕ → List ℕ → LineAt → Judged → Type 0
+JudgesRead text starts literals widths own line l r =
+    (held : code.State) (st : State) (s : Step) (table : List ℕ) → starts ≡ held .starts → literals ≡ held .literals → widths ≡ held .widths → own ≡ held .clauses →
+    l ≡ lineOf table line (form (by s)) → Represents text held st → readLine 16 line ≡ form (by s) → readFailure st (form (by s)) ≡ 0 → r ≡ judge (clauses st) s

@@ -11,18 +11,14 @@ use crate::uses::used;
 use logic::Judged;
 use logic::Rule;
 use reader::access::starts;
-use reader::clauses::clause;
 use reader::forms::LineAt;
 use reader::forms::line as read_form;
 use reader::states::State;
-use reader::summaries::Measure;
 use reader::texts::clause_part;
 use reader::words::word;
 ghost use mathlib.Core.Path.{_≡_};
 ghost use lib.ListN.{getD};
-ghost use Rattle.rules.specs.Judging.{partAt, measureAt, listAt, listsAt, thenClaim, concludeAt, settledAs, stepAt, partsAt, judgeAt, Judges};
-
-const DEPTH: usize = 16;
+ghost use Rattle.rules.specs.Judging.{partAt, sizeAt, listAt, listsAt, thenClaim, concludeAt, settledAs, stepAt, partsAt, judgeAt, Judges, JudgesRead};
 
 // The place of clause n, or 0.
 fn start(places: &[u16], n: usize) -> usize
@@ -45,12 +41,17 @@ fn parent<'a>(text: &'a [u8], places: &[u16], is_used: bool, n: usize) -> &'a [u
     &text[0..0]
 }
 
-// A parent's number of literals and its highest variable plus 1.
-fn measure(p: &[u8]) -> Measure
-    ensures { λ r. ⌜ r ≡ measureAt (now (p .entry)) ⌝ }
+// The number of literals of clause n, or its width; 0 for an unused parent.
+fn size(sizes: &[u8], is_used: bool, n: usize) -> usize
+    ensures { λ r. ⌜ r ≡ sizeAt (now (sizes .entry)) «is_used» n ⌝ }
 {
-    let found = clause(p, 0, DEPTH, &p[0..0]);
-    found.measure
+    if !is_used {
+        return 0;
+    }
+    if n >= sizes.len() {
+        return 0;
+    }
+    sizes[n] as usize
 }
 
 // The places of the entries of the list that begins at `at`.
@@ -124,28 +125,36 @@ fn settled(parents: bool, numbers: bool, answer: Judged) -> Judged
     }
 }
 
-// Checks 7 to 11 of a step that was read, over the parts of the text that begin with its parents; `own` is its own number.
-pub fn step(own: usize, p: &[u8], q: &[u8], line: &[u8], l: LineAt) -> Judged
-    ensures { λ r. ⌜ r ≡ stepAt own (now (p .entry)) (now (q .entry)) (now (line .entry)) l ⌝ }
+// Checks 7 to 11 of a step that was read, over the parts of the text that begin with its parents, of n and m literals and of widths v and w; `own` is its own number.
+pub fn step(
+    own: usize,
+    p: &[u8],
+    n: usize,
+    v: usize,
+    q: &[u8],
+    m: usize,
+    w: usize,
+    line: &[u8],
+    l: LineAt,
+) -> Judged
+    ensures { λ r. ⌜ r ≡ stepAt own (now (p .entry)) n v (now (q .entry)) m w (now (line .entry)) l ⌝ }
 {
     let rule = l.rule;
-    let a = measure(p);
-    let b = measure(q);
     let first = list(line, l.first);
     let second = list(line, l.second);
     let zero = unused_zero(rule, l.a, l.i, l.b, l.j, l.k);
-    let fit = lists_fit(rule, l.firsts, l.seconds, a.width, b.width);
+    let fit = lists_fit(rule, l.firsts, l.seconds, v, w);
     let below = parents_below(rule, own, l.a, l.b);
     let answer = conclude(
         rule,
         l.k,
         p,
-        a.count,
+        n,
         l.i,
         line,
         &first,
         q,
-        b.count,
+        m,
         l.j,
         &second,
         l.clause,
@@ -153,16 +162,29 @@ pub fn step(own: usize, p: &[u8], q: &[u8], line: &[u8], l: LineAt) -> Judged
     settled(below, both(zero, fit), answer)
 }
 
-// Checks 7 to 11 of the step on a line that is read, with the parents from the text by the places that the state before the line holds.
-fn parts(text: &[u8], state: State, line: &[u8], l: LineAt) -> Judged
-    ensures { λ r. ⌜ r ≡ partsAt (now (text .entry)) state (now (line .entry)) l ⌝ }
+// Checks 7 to 11 of the step on a line that is read, with the parents from the text by what the state before the line holds of each clause.
+pub fn judge_read(
+    text: &[u8],
+    places: &[u16],
+    literals: &[u8],
+    widths: &[u8],
+    own: usize,
+    line: &[u8],
+    l: LineAt,
+) -> Judged
+    ensures { λ r. ⌜ r ≡ partsAt (now (text .entry)) (now (places .entry)) (now (literals .entry)) (now (widths .entry)) own (now (line .entry)) l ⌝ }
+    ensures { λ r. ⌜ JudgesRead (now (text .entry)) (now (places .entry)) (now (literals .entry)) (now (widths .entry)) own (now (line .entry)) l r ⌝ }
 {
     let rule = l.rule;
-    let held = state.starts;
-    let places = &held[..];
-    let p = parent(text, places, used(rule, 0), l.a);
-    let q = parent(text, places, used(rule, 2), l.b);
-    step(state.clauses, p, q, line, l)
+    let first = used(rule, 0);
+    let second = used(rule, 2);
+    let p = parent(text, places, first, l.a);
+    let q = parent(text, places, second, l.b);
+    let n = size(literals, first, l.a);
+    let m = size(literals, second, l.b);
+    let v = size(widths, first, l.a);
+    let w = size(widths, second, l.b);
+    step(own, p, n, v, q, m, w, line, l)
 }
 
 // Checks 7 to 11 of the step that the line is.
@@ -171,5 +193,8 @@ pub fn judge(text: &[u8], state: State, line: &[u8]) -> Judged
     ensures { λ r. ⌜ Judges (now (text .entry)) state (now (line .entry)) r ⌝ }
 {
     let l = read_form(line, &line[0..0]);
-    parts(text, state, line, l)
+    let places = state.starts;
+    let literals = state.literals;
+    let widths = state.widths;
+    judge_read(text, &places, &literals, &widths, state.clauses, line, l)
 }

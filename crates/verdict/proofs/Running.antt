@@ -5,7 +5,7 @@ use mathlib.Core.List.{List, [], _∷_, _++_, map}
 use mathlib.Core.Path.{_≡_, refl, sym, ap, subst, _∙_}
 use native.Mathlib.Omega.{arith}
 use native.Mathlib.Numerals.{add-one}
-use borrow.Author.Tests.{eq-eqb, ne-eqb, lt-ltb, ltb-false}
+use borrow.Author.Tests.{eq-eqb, ne-eqb, lt-ltb, le-ltb, ltb-false}
 use lib.Dec.{ltb}
 use lib.ListN.{length, getD, take, drop, length-append, length-map, length-drop, take-append-drop}
 use lib.Seq.{drop-drop}
@@ -13,22 +13,25 @@ use Rattle.logic.specs.declared.Judged.{Judged}
 use Rattle.logic.specs.Syntax.{Step, by, input}
 use Rattle.logic.specs.Syntax as syntax
 use Rattle.logic.specs.Judge.{judgedNumber}
+use Rattle.reader.specs.declared.forms.LineAt.{LineAt}
 use Rattle.reader.specs.declared.states.State as code
+use Rattle.reader.specs.declared.states.Seen.{Seen}
+use Rattle.reader.specs.declared.states.Added.{Added}
 use Rattle.reader.specs.Read.{Reading, form, noForm, readLine}
 use Rattle.reader.specs.Split.{Raw, ended, unended, split, readRaw}
 use Rattle.reader.specs.Figures.{office}
 use Rattle.reader.specs.Size.{lineLength, lineEndAt, endedAt, tooLarge}
-use Rattle.reader.specs.LineAt.{lineOf}
-use Rattle.reader.specs.ReadLine.{freshState, isBy, readLineAt}
+use Rattle.reader.specs.LineAt.{formNumber, lineOf}
+use Rattle.reader.specs.ReadLine.{freshState, heldTable, seenAt, addedBy, withSymbol, withAdded, hasRoom, addedTo}
 use Rattle.reader.specs.State.{State, fresh, claimOf, clauses, advance, ordered, constantReady, withinLimits, symbolsDeclared, lineFailure, after}
 use Rattle.reader.specs.Represents.{Represents, readFailure}
 use Rattle.reader.proofs.Places.{at-byte, past}
 use Rattle.reader.proofs.Sizes.{split-at, split-over, ended-length}
-use Rattle.reader.proofs.Held.{fresh-represents, line-failure, line-passed, line-state}
+use Rattle.reader.proofs.Held.{fresh-represents, line-seen, line-state}
 use Rattle.verdict.specs.declared.Verdict.{Verdict}
 use Rattle.verdict.specs.declared.Verdict.the-variants.{Refused}
 use Rattle.verdict.specs.declared.Checked.{Checked}
-use Rattle.rules.specs.Judging.{Judges}
+use Rattle.rules.specs.Judging.{JudgesRead}
 use Rattle.verdict.specs.Checks.{readings}
 use Rattle.verdict.specs.Answer.{stepFailure, failure, readOn}
 use Rattle.verdict.specs.Running.{Tells, Room, Ended, Next, Finishes}
@@ -64,22 +67,23 @@ unfolding Then
 failed-then st r = read-then st r .1
 
 -- A line that is no step, and one that is.
-no-step : (st : State) (table bytes : List ℕ) (r : Reading) → isBy (lineOf table bytes r .form) ≡ false → ofStep st r ≡ 0
-unfolding isBy lineOf ofStep stepFailure
-no-step st table bytes noForm e = refl
-no-step st table bytes (form (syntax.sym k)) e = refl
-no-step st table bytes (form (input c)) e = refl
-no-step st table bytes (form (by s)) e = absurd (true≢false e)
+no-step : (st : State) (table bytes : List ℕ) (r : Reading) → (formNumber (lineOf table bytes r .form) ≡ 3 → ⊥) → ofStep st r ≡ 0
+unfolding formNumber lineOf ofStep stepFailure
+no-step st table bytes noForm n = refl
+no-step st table bytes (form (syntax.sym k)) n = refl
+no-step st table bytes (form (input c)) n = refl
+no-step st table bytes (form (by s)) n = absurd (n refl)
 
-a-step : (table bytes : List ℕ) (r : Reading) → isBy (lineOf table bytes r .form) ≡ true → (s : Step) × (r ≡ form (by s))
-unfolding isBy lineOf
-a-step table bytes noForm e = absurd (true≢false (sym e))
-a-step table bytes (form (syntax.sym k)) e = absurd (true≢false (sym e))
-a-step table bytes (form (input c)) e = absurd (true≢false (sym e))
+a-step : (table bytes : List ℕ) (r : Reading) → formNumber (lineOf table bytes r .form) ≡ 3 → (s : Step) × (r ≡ form (by s))
+unfolding formNumber lineOf
+a-step table bytes noForm e = absurd (omega arith)
+a-step table bytes (form (syntax.sym k)) e = absurd (omega arith)
+a-step table bytes (form (input c)) e = absurd (omega arith)
 a-step table bytes (form (by s)) e = (s, refl)
 
--- An ended line.
-module _ {text : List ℕ} {held : code.State} {st : State} (R : Represents text held st) (room : Room text held) (line rest : List ℕ) (at : ℕ) (l : at ≤ length text) (d : drop at text ≡ line ++ rest) where
+-- An ended line, as it was seen, and what it adds.
+module _ {text : List ℕ} {held : code.State} {st : State} (R : Represents text held st) (room : Room text held) (line rest : List ℕ) (at : ℕ) (l : at ≤ length text) (d : drop at text ≡ line ++ rest)
+    {s : Seen} {a : Added} (e : s ≡ seenAt (heldTable held) (held .symbols) (held .clauses) (held .inputs) line) (f : a ≡ addedBy at (s .line)) where
   full : held .clauses < 1024
   unfolding Room
   full = room .0
@@ -88,43 +92,56 @@ module _ {text : List ℕ} {held : code.State} {st : State} (R : Represents text
   unfolding Room
   small = room .1
 
-  passes : readLineAt held line at .failure ≡ 0 → readFailure st (readLine 16 line) ≡ 0
-  passes e = sym (line-failure R full line at) ∙ e
+  seen-failure : s .failure ≡ readFailure st (readLine 16 line)
+  seen-failure = ap (λ (s : Seen). s .failure) (e ∙ line-seen R full line at)
 
-  is-by : readLineAt held line at .failure ≡ 0 → isBy (lineOf (st .symbols) line (readLine 16 line) .form) ≡ readLineAt held line at .by
-  is-by e = rw (line-passed R full line at (passes e))
+  seen-line : s .line ≡ lineOf (st .symbols) line (readLine 16 line)
+  seen-line = ap (λ (s : Seen). s .line) (e ∙ line-seen R full line at)
 
-  pub tells-failed : (readLineAt held line at .failure ≡ 0 → ⊥) → Tells text st (readLine 16 line) (record { failure = readLineAt held line at .failure; state = readLineAt held line at .state })
+  passes : s .failure ≡ 0 → readFailure st (readLine 16 line) ≡ 0
+  passes z = sym seen-failure ∙ z
+
+  state-after : s .failure ≡ 0 → Represents text (withAdded held a) (after st (readLine 16 line))
+  state-after z = rw (f, seen-line) (line-state R full small line rest at l d (passes z))
+
+  pub tells-failed : (s .failure ≡ 0 → ⊥) → Tells text held st (readLine 16 line) (record { failure = s .failure; adds = a })
   unfolding Tells
-  tells-failed n =
-      let e : readLineAt held line at .failure ≡ readFailure st (readLine 16 line) = line-failure R full line at in
-      (e ∙ sym (failed-then st (readLine 16 line) (λ z. n (e ∙ z))), λ z. absurd (n z))
+  tells-failed n = (seen-failure ∙ sym (failed-then st (readLine 16 line) (λ z. n (seen-failure ∙ z))), λ z. absurd (n z))
 
-  pub tells-passed : readLineAt held line at .failure ≡ 0 → readLineAt held line at .by ≡ false →
-      Tells text st (readLine 16 line) (record { failure = readLineAt held line at .failure; state = readLineAt held line at .state })
+  pub tells-passed : s .failure ≡ 0 → (formNumber (s .line .form) ≡ 3 → ⊥) → Tells text held st (readLine 16 line) (record { failure = s .failure; adds = a })
   unfolding Tells
-  tells-passed e f = (
-    e ∙ sym (passed-then st (readLine 16 line) (passes e) ∙ no-step st (st .symbols) line (readLine 16 line) (is-by e ∙ f)),
-    λ _. line-state R full small line rest at l d (passes e),
+  tells-passed z n = (
+    z ∙ sym (passed-then st (readLine 16 line) (passes z) ∙ no-step st (st .symbols) line (readLine 16 line) (λ q. n (ap (λ (l : LineAt). formNumber (l .form)) seen-line ∙ q))),
+    λ _. state-after z,
   )
 
-  judged-number : (j : Judged) → Judges text held line j → readLineAt held line at .failure ≡ 0 → (s : Step) → readLine 16 line ≡ form (by s) → judgedNumber j ≡ failure office st (readLine 16 line)
-  unfolding Judges ofStep stepFailure
-  judged-number j g e s q =
-      rw q (ap judgedNumber (g st s R q (sym (ap (readFailure st) q) ∙ passes e)) ∙ sym (passed-then st (form (by s)) (sym (ap (readFailure st) q) ∙ passes e)))
+  judged-number : (j : Judged) → JudgesRead text (held .starts) (held .literals) (held .widths) (held .clauses) line (s .line) j → s .failure ≡ 0 → (p : Step) → readLine 16 line ≡ form (by p) →
+      judgedNumber j ≡ failure office st (readLine 16 line)
+  unfolding JudgesRead ofStep stepFailure
+  judged-number j g z p q =
+      let k = sym (ap (readFailure st) q) ∙ passes z in
+      rw q (ap judgedNumber (g held st p (st .symbols) refl refl refl refl (seen-line ∙ ap (lineOf (st .symbols) line) q) R q k) ∙ sym (passed-then st (form (by p)) k))
 
-  pub tells-step : readLineAt held line at .failure ≡ 0 → readLineAt held line at .by ≡ true → (j : Judged) {n : ℕ} → Judges text held line j → n ≡ judgedNumber j →
-      Tells text st (readLine 16 line) (record { failure = n; state = readLineAt held line at .state })
+  pub tells-step : s .failure ≡ 0 → formNumber (s .line .form) ≡ 3 → (j : Judged) {n : ℕ} → JudgesRead text (held .starts) (held .literals) (held .widths) (held .clauses) line (s .line) j → n ≡ judgedNumber j →
+      Tells text held st (readLine 16 line) (record { failure = n; adds = a })
   unfolding Tells
-  tells-step e f j {n} g q =
-      let (s, r) = a-step (st .symbols) line (readLine 16 line) (is-by e ∙ f) in
-      (q ∙ judged-number j g e s r, λ _. line-state R full small line rest at l d (passes e))
+  tells-step z b j {n} g q =
+      let (p, r) = a-step (st .symbols) line (readLine 16 line) (sym (ap (λ (l : LineAt). formNumber (l .form)) seen-line) ∙ b) in
+      (q ∙ judged-number j g z p r, λ _. state-after z)
 
 -- The first line of the text from a place on.
 module _ (text : List ℕ) (at : ℕ) (h : at < length text) where
   line-end-here : lineEndAt text at ≡ at + lineLength (drop at text)
   unfolding lineEndAt
   line-end-here = rw (lt-ltb at (length text) h)
+
+  pub is-ended : lineEndAt text at < length text → endedAt text at ≡ true
+  unfolding endedAt
+  is-ended l = lt-ltb (lineEndAt text at) (length text) l
+
+  pub not-ended : length text ≤ lineEndAt text at → endedAt text at ≡ false
+  unfolding endedAt
+  not-ended l = le-ltb (lineEndAt text at) (length text) l
 
   ended-within : endedAt text at ≡ true → lineLength (drop at text) < length (drop at text)
   ended-within e = ended-length text at h .0 (rw e tt)
@@ -213,7 +230,7 @@ module _ {text : List ℕ} {at line : ℕ} {held : code.State} (P : Reached text
       go true e = (_, _, split-ended text at h e)
       go false e = (_, _, split-unended text at h e)
 
-  tells : (raw : Raw) (raws : List Raw) → split (drop at text) ≡ raw ∷ raws → Tells text (P .st) (readRaw 16 raw) c
+  tells : (raw : Raw) (raws : List Raw) → split (drop at text) ≡ raw ∷ raws → Tells text held (P .st) (readRaw 16 raw) c
   unfolding Next Room
   tells raw raws q = N (P .st) raw raws (P .holds) (omega (arith, P .room, ap length q), small) q
 
@@ -244,13 +261,13 @@ module _ {text : List ℕ} {at line : ℕ} {held : code.State} (P : Reached text
   pub line-passed-end : c .failure ≡ 0 → (at ≤ lineEndAt text at) × (lineEndAt text at < length text)
   line-passed-end z = line-end-within text at h (line-is-ended z)
 
-  reached-after : c .failure ≡ 0 → Reached text (lineEndAt text at + 1) (line + 1) (c .state)
+  reached-after : c .failure ≡ 0 → Reached text (lineEndAt text at + 1) (line + 1) (withAdded held (c .adds))
   unfolding Tells readings office
   reached-after z =
       let raw = ended (take (lineEndAt text at - at) (drop at text)) in
       let raws = split (drop (lineEndAt text at + 1) text) in
       let q : split (drop at text) ≡ raw ∷ raws = split-ended text at h (line-is-ended z) in
-      let R : Represents text (c .state) (after (P .st) (readRaw 16 raw)) = tells raw raws q .1 z in
+      let R : Represents text (withAdded held (c .adds)) (after (P .st) (readRaw 16 raw)) = tells raw raws q .1 z in
       record {
         st = after (P .st) (readRaw 16 raw);
         holds = R;
@@ -258,8 +275,30 @@ module _ {text : List ℕ} {at line : ℕ} {held : code.State} (P : Reached text
         onward = P .onward ∙ went-on raw raws q z ∙ rw (add-one line);
       }
 
-  pub reached-next : {p : ℕ} → c .failure ≡ 0 → p ≡ lineEndAt text at + 1 → Reached text p (line + 1) (c .state)
-  reached-next z q = rw q (reached-after z)
+  clause-room : held .clauses < 1_024
+  clause-room = let (raw, raws, q) = some-line in omega (arith, P .room, ap length q)
+
+  -- There is room for what the line adds.
+  symbol-reached : c .failure ≡ 0 → c .adds .symbol ≡ true → Reached text (lineEndAt text at + 1) (line + 1) (withSymbol held (c .adds .k))
+  unfolding withAdded
+  symbol-reached z b = rw b at (reached-after z)
+
+  symbol-room : c .failure ≡ 0 → c .adds .symbol ≡ true → held .symbols < 256
+  symbol-room z b =
+      let R = symbol-reached z b .holds in
+      omega (arith, symbols-within R, R .room .0)
+
+  room-there : c .failure ≡ 0 → hasRoom held (c .adds) ≡ true
+  unfolding hasRoom
+  room-there z = go (c .adds .symbol) refl
+    where
+      go : (b : Bool) → c .adds .symbol ≡ b → cond b (ltb (held .symbols) 256) (ltb (held .clauses) 1_024) ≡ true
+      go true e = lt-ltb (held .symbols) 256 (symbol-room z e)
+      go false e = lt-ltb (held .clauses) 1_024 clause-room
+
+  pub reached-next : {p : ℕ} {next : code.State} → c .failure ≡ 0 → p ≡ lineEndAt text at + 1 → next ≡ addedTo held (c .adds) → Reached text p (line + 1) next
+  unfolding addedTo
+  reached-next z q e = rw (q, e, room-there z) (reached-after z)
 
 module _ {text : List ℕ} {at line : ℕ} {held : code.State} (P : Reached text at line held) where
   pub held-within : (held .symbols ≤ length (held .counts)) × (held .clauses ≤ 1_024)

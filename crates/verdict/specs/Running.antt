@@ -8,14 +8,20 @@ use Rattle.reader.specs.Read.{Reading, readLine}
 use Rattle.reader.specs.Split.{Raw, split, readRaw}
 use Rattle.reader.specs.Figures.{office}
 use Rattle.reader.specs.State.{State, clauses, after}
+use Rattle.reader.specs.ReadLine.{withAdded}
 use Rattle.reader.specs.Represents.{Represents}
 use Rattle.verdict.specs.declared.Verdict.{Verdict}
 use Rattle.verdict.specs.declared.Checked.{Checked}
 use Rattle.verdict.specs.Answer.{failure, firstEmpty, finish}
 
--- The first failing check of 2 to 11 of a line, or 0, and then the state after the line.
-unfoldable pub Tells : List ℕ → State → Reading → Checked → Type 0
-Tells text st r c = (c .failure ≡ failure office st r) × (c .failure ≡ 0 → Represents text (c .state) (after st r))
+-- The state that the code holds, by its parts.
+abbrev pub heldAs : List ℕ → ℕ → List ℕ → List ℕ → List ℕ → ℕ → ℕ → code.State
+heldAs counts symbols starts literals widths clauses inputs =
+    record { counts = counts; symbols = symbols; starts = starts; literals = literals; widths = widths; clauses = clauses; inputs = inputs }
+
+-- The first failing check of 2 to 11 of a line, or 0, and then the state with what the line adds.
+unfoldable pub Tells : List ℕ → code.State → State → Reading → Checked → Type 0
+Tells text held st r c = (c .failure ≡ failure office st r) × (c .failure ≡ 0 → Represents text (withAdded held (c .adds)) (after st r))
 
 -- There is room for one clause more, and the text is not too long.
 unfoldable pub Room : List ℕ → code.State → Type 0
@@ -24,12 +30,12 @@ Room text held = (held .clauses < 1_024) × (length text ≤ 65_535)
 -- Of an ended line, whose bytes stand at a place of the text.
 unfoldable pub Ended : List ℕ → ℕ → List ℕ → code.State → Checked → Type 0
 Ended text at line held c =
-    (st : State) (rest : List ℕ) → Represents text held st → Room text held → at ≤ length text → drop at text ≡ line ++ rest → Tells text st (readLine 16 line) c
+    (st : State) (rest : List ℕ) → Represents text held st → Room text held → at ≤ length text → drop at text ≡ line ++ rest → Tells text held st (readLine 16 line) c
 
 -- Of the first line of the text from a place on.
 unfoldable pub Next : List ℕ → ℕ → code.State → Checked → Type 0
 Next text at held c =
-    (st : State) (raw : Raw) (raws : List Raw) → Represents text held st → Room text held → split (drop at text) ≡ raw ∷ raws → Tells text st (readRaw 16 raw) c
+    (st : State) (raw : Raw) (raws : List Raw) → Represents text held st → Room text held → split (drop at text) ≡ raw ∷ raws → Tells text held st (readRaw 16 raw) c
 
 -- Of the clauses, and of the end of the text.
 unfoldable pub FindsEmpty : List ℕ → code.State → ℕ → Type 0

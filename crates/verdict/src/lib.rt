@@ -1,15 +1,19 @@
 // The verdict of a text: its lines are read and judged one after the other, and where none fails the clauses are counted.
 
 use logic::Judged;
+use reader::forms::STEP;
+use reader::forms::form_number;
+use reader::states::Added;
 use reader::states::State;
+use reader::states::adds;
+use reader::states::after;
 use reader::states::fresh;
 use reader::states::has_constant;
-use reader::states::read_line;
+use reader::states::see;
 use reader::texts::line_end;
-use reader::texts::line_ended;
 use reader::texts::too_large;
 use reader::words::word;
-use rules::steps::judge;
+use rules::steps::judge_read;
 ghost use Prim.Native.Nat.{_≤_, _<_};
 ghost use mathlib.Core.Path.{_≡_};
 ghost use mathlib.Core.Bool.{false};
@@ -23,7 +27,7 @@ ghost use Rattle.reader.specs.State.{fresh as freshly};
 ghost use Rattle.verdict.specs.Checks.{readings, tooLarge};
 ghost use Rattle.verdict.specs.Answer.{readOn, verdict};
 ghost use Rattle.verdict.specs.Guarantee.{Guarantee};
-ghost use Rattle.verdict.specs.Running.{Ended, Next, FindsEmpty, Finishes};
+ghost use Rattle.verdict.specs.Running.{heldAs, Ended, Next, FindsEmpty, Finishes};
 
 // The answer to a text.
 pub enum Verdict {
@@ -35,10 +39,10 @@ pub enum Verdict {
     Refused { number: usize, line: usize },
 }
 
-// What a line tells: the number of its first failing check of 2 to 11, or 0, and the state after it.
+// What a line tells: the number of its first failing check of 2 to 11, or 0, and what it adds to the state.
 struct Checked {
     failure: usize,
-    state: State,
+    adds: Added,
 }
 
 // The number of the check of 7 to 11 that fails, or 0.
@@ -56,41 +60,80 @@ fn number(j: Judged) -> usize
 }
 
 // An ended line, without its line end, which begins at the place `at` of the text: a step is judged by the clauses before it.
-fn ended(text: &[u8], at: usize, line: &[u8], state: State) -> Checked
-    ensures { λ r. ⌜ Ended (now (text .entry)) at (now (line .entry)) state r ⌝ }
+fn ended(
+    text: &[u8],
+    at: usize,
+    line: &[u8],
+    counts: &[u8],
+    symbols: usize,
+    starts: &[u16],
+    literals: &[u8],
+    widths: &[u8],
+    clauses: usize,
+    inputs: usize,
+) -> Checked
+    requires { ⌜ symbols ≤ length (now counts) ⌝ }
+    ensures { λ r. ⌜ Ended (now (text .entry)) at (now (line .entry)) (heldAs (now (counts .entry)) symbols (now (starts .entry)) (now (literals .entry)) (now (widths .entry)) clauses inputs) r ⌝ }
 {
-    let read = read_line(state, line, at);
-    let failure = read.failure;
-    let next = read.state;
+    let seen = see(&counts[..symbols], symbols, clauses, inputs, line);
+    let failure = seen.failure;
+    let l = seen.line;
+    let a = adds(at, l);
     if failure != 0 {
-        return Checked {
-            failure,
-            state: next,
-        };
+        return Checked { failure, adds: a };
     }
-    if !read.by {
-        return Checked {
-            failure,
-            state: next,
-        };
+    let f = l.form;
+    let n = form_number(f);
+    if n != STEP {
+        return Checked { failure, adds: a };
     }
-    let judged = judge(text, state, line);
+    let judged = judge_read(text, starts, literals, widths, clauses, line, l);
     let failure = number(judged);
-    Checked {
-        failure,
-        state: next,
-    }
+    Checked { failure, adds: a }
 }
 
 // The line from `at` on: bytes after the last line end are no form.
-fn next(text: &[u8], at: usize, end: usize, state: State) -> Checked
-    requires { ⌜ (at < length (now text)) × (end ≡ lineEndAt (now text) at) ⌝ }
-    ensures { λ r. ⌜ Next (now (text .entry)) at state r ⌝ }
+fn next(
+    text: &[u8],
+    at: usize,
+    end: usize,
+    counts: &[u8],
+    symbols: usize,
+    starts: &[u16],
+    literals: &[u8],
+    widths: &[u8],
+    clauses: usize,
+    inputs: usize,
+) -> Checked
+    requires { ⌜ (at < length (now text)) × (end ≡ lineEndAt (now text) at) × (symbols ≤ length (now counts)) ⌝ }
+    ensures { λ r. ⌜ Next (now (text .entry)) at (heldAs (now (counts .entry)) symbols (now (starts .entry)) (now (literals .entry)) (now (widths .entry)) clauses inputs) r ⌝ }
 {
-    if !line_ended(text, at) {
-        return Checked { failure: 2, state };
+    if end >= text.len() {
+        let a = Added {
+            symbol: false,
+            input: false,
+            k: 0,
+            start: 0,
+            literals: 0,
+            width: 0,
+        };
+        return Checked {
+            failure: 2,
+            adds: a,
+        };
     }
-    ended(text, at, &text[at..end], state)
+    ended(
+        text,
+        at,
+        &text[at..end],
+        counts,
+        symbols,
+        starts,
+        literals,
+        widths,
+        clauses,
+        inputs,
+    )
 }
 
 // The number of the first empty clause, or of all clauses where none is empty.
@@ -139,7 +182,22 @@ fn read_on(text: &[u8]) -> Verdict
     let mut line = 1;
     while at < text.len() {
         let end = line_end(text, at);
-        let checked = next(text, at, end, state);
+        let counts = state.counts;
+        let starts = state.starts;
+        let literals = state.literals;
+        let widths = state.widths;
+        let checked = next(
+            text,
+            at,
+            end,
+            &counts,
+            state.symbols,
+            &starts,
+            &literals,
+            &widths,
+            state.clauses,
+            state.inputs,
+        );
         let failure = checked.failure;
         if failure != 0 {
             return Verdict::Refused {
@@ -147,7 +205,7 @@ fn read_on(text: &[u8]) -> Verdict
                 line,
             };
         }
-        state = checked.state;
+        state = after(state, checked.adds);
         at = end + 1;
         line += 1;
     }

@@ -1,48 +1,56 @@
 -- `verdict::ended` meets its contract.
-use mathlib.Core.Path.{_≡_}
-use mathlib.Core.Bool.{true, false, not}
-use denote.Ref.{now}
-use borrow.Author.Tests.{not-true, not-false}
+use mathlib.Core.Path.{_≡_, sym, _∙_}
+use native.Mathlib.Omega.{arith}
+use lib.Seq.{length-take-le}
+use Rattle.reader.specs.ReadLine.{heldTable}
 use Rattle.verdict.specs.Running.{Ended}
 use Rattle.verdict.proofs.Running.{tells-failed, tells-passed, tells-step}
 use Rattle.verdict.proofs.ended.Statement.{statement}
 use Rattle.verdict.proofs.ended.Tie as tie
 
-read-line-requires : tie.Need-read-line-requires
-read-line-requires c κs = tt
+slice-aggregate-see : tie.Need-slice-aggregate-see
+slice-aggregate-see c = sym (length-take-le _ _ (c .before .before .before .before .before .before .before .pre))
+
+see-requires : tie.Need-see-requires
+see-requires c κs = tt
+
+adds-requires : tie.Need-adds-requires
+adds-requires c κs = tt
 
 returns : tie.Need-returns
-unfolding Ended
-returns c =
-    let a = c .before .before .before .before .before .args in
-    let e = c .before .before .read-line .ensures in
-    λ st rest R room l d. rw e (tells-failed R room (now (a .line)) rest (a .at) l d (rw e at (c .if1 .taken)))
+unfolding Ended heldTable
+returns c = λ st rest R room l d. tells-failed R room _ rest _ l d (c .before .before .before .see .ensures) (c .before .adds .ensures) (c .if1 .taken)
+
+form-number-requires : tie.Need-form-number-requires
+form-number-requires c κs = tt
 
 returns-2 : tie.Need-returns-2
-unfolding Ended
+unfolding Ended heldTable
 returns-2 c =
-    let a = c .before .before .before .before .before .before .before .args in
-    let r = c .before .before .before .before .read-line .result in
-    let e = c .before .before .before .before .read-line .ensures in
-    let b : not (r .by) ≡ true = c .if2 .taken in
-    λ st rest R room l d. rw e (tells-passed R room (now (a .line)) rest (a .at) l d (rw e at (c .before .before .if1 .left)) (rw e at (not-true (r .by) b)))
+    λ st rest R room l d. tells-passed R room _ rest _ l d (c .before .before .before .before .before .see .ensures) (c .before .before .before .adds .ensures) (omega (arith, c .before .before .if1 .left)) (λ q. c .if2 .taken (c .before .form-number .ensures ∙ q))
 
-judge-requires : tie.Need-judge-requires
-judge-requires c κs = tt
+judge-read-requires : tie.Need-judge-read-requires
+judge-read-requires c κs = tt
 
 number-requires : tie.Need-number-requires
 number-requires c κs = tt
 
 returns-3 : tie.Need-returns-3
-unfolding Ended
+unfolding Ended heldTable
 returns-3 c =
-    let a = c .before .before .before .before .before .before .before .before .before .args in
-    let r = c .before .before .before .before .before .before .read-line .result in
-    let e = c .before .before .before .before .before .before .read-line .ensures in
-    let b : not (r .by) ≡ false = c .before .before .if2 .left in
-    λ st rest R room l d. rw e (tells-step R room (now (a .line)) rest (a .at) l d (rw e at (c .before .before .before .before .if1 .left)) (rw e at (not-false (r .by) b)) _ (c .before .judge .ensures .1) (c .number .ensures))
+    let b : c .before .before .before .form-number .result ≡ 3 = omega (arith, c .before .before .if2 .left) in
+    λ st rest R room l d. tells-step R room _ rest _ l d (c .before .before .before .before .before .before .before .see .ensures) (c .before .before .before .before .before .adds .ensures) (omega (arith, c .before .before .before .before .if1 .left)) (sym (c .before .before .before .form-number .ensures) ∙ b) _ (c .before .judge-read .ensures .1) (c .number .ensures)
 
 pub ended-spec : {M : Type 1} → statement M
 ended-spec =
     tie.close
-    (tie.spec read-line-requires returns returns-2 judge-requires number-requires returns-3)
+    (tie.spec
+    slice-aggregate-see
+    see-requires
+    adds-requires
+    returns
+    form-number-requires
+    returns-2
+    judge-read-requires
+    number-requires
+    returns-3)

@@ -2,6 +2,7 @@
 use Prim.Native.Nat.{_+_, _≤_, _-_}
 use lib.ListN.{length}
 use native.Mathlib.Omega.{arith}
+use borrow.Author.Needs.{needs}
 use Rattle.verdict.proofs.Running.{Reached, text-small, reached-first, line-refused, line-passed-end, reached-next, held-within, reached-end}
 use Rattle.verdict.proofs.read_on.Statement.{statement}
 use Rattle.verdict.proofs.read_on.Tie as tie
@@ -21,39 +22,58 @@ loop-holds c = (omega arith, omega arith, rw (c .fresh .ensures) (reached-first 
 line-end-requires : tie.Need-line-end-requires Inv-loop μ-loop
 line-end-requires c κs = tt
 
+slice-aggregate-next : tie.Need-slice-aggregate-next Inv-loop μ-loop
+slice-aggregate-next c = search needs
+
+slice-aggregate-next-2 : tie.Need-slice-aggregate-next-2 Inv-loop μ-loop
+slice-aggregate-next-2 c = search needs
+
+slice-aggregate-next-3 : tie.Need-slice-aggregate-next-3 Inv-loop μ-loop
+slice-aggregate-next-3 c = search needs
+
+slice-aggregate-next-4 : tie.Need-slice-aggregate-next-4 Inv-loop μ-loop
+slice-aggregate-next-4 c = search needs
+
 next-requires : tie.Need-next-requires Inv-loop μ-loop
-next-requires c κs = (omega arith, c .line-end .ensures)
+next-requires c κs = (omega arith, c .before .before .before .before .before .before .before .before .line-end .ensures, held-within (c .before .before .before .before .before .before .before .before .before .before .loop .inv .2) .0)
 
 returns : tie.Need-returns Inv-loop μ-loop
 returns c =
-    let l = c .before .before .before .before .loop in
-    line-refused (l .inv .2) (omega arith) (text-small _ (c .before .before .before .before .before .before .before .pre)) (c .before .next .result) (c .before .next .ensures) (c .if1 .taken)
+    let l = c .before .before .before .before .before .before .before .before .before .before .before .before .loop in
+    line-refused (l .inv .2) (omega arith) (text-small _ (c .before .before .before .before .before .before .before .before .before .before .before .before .before .before .before .pre)) (c .before .next .result) (c .before .next .ensures) (c .if1 .taken)
+
+after-requires : tie.Need-after-requires Inv-loop μ-loop
+after-requires c κs = tt
 
 add-at : tie.Need-add-at Inv-loop μ-loop
 add-at c =
-    let l = c .before .before .before .before .before .loop in
-    let m = text-small _ (c .before .before .before .before .before .before .before .before .pre) in
+    let l = c .before .before .before .before .before .before .before .before .before .before .before .before .before .loop in
+    let m = text-small _ (c .before .before .before .before .before .before .before .before .before .before .before .before .before .before .before .before .pre) in
     let e = line-passed-end (l .inv .2) (omega arith) m (c .before .before .next .result) (c .before .before .next .ensures) (c .before .if1 .left) in
-    omega (arith, m, e .1, c .before .before .before .line-end .ensures)
+    omega (arith, m, e .1, c .before .before .before .before .before .before .before .before .before .before .before .line-end .ensures)
 
 add-line : tie.Need-add-line Inv-loop μ-loop
-add-line c = omega arith
+add-line c =
+    let l = c .before .before .before .before .before .before .before .before .before .before .before .before .before .loop in
+    let m = text-small _ (c .before .before .before .before .before .before .before .before .before .before .before .before .before .before .before .before .pre) in
+    let e = line-passed-end (l .inv .2) (omega arith) m (c .before .before .next .result) (c .before .before .next .ensures) (c .before .if1 .left) in
+    omega (arith, m, e .0, e .1, l .inv .0, l .inv .1)
 
 loop-less : tie.Need-loop-less Inv-loop μ-loop
 loop-less c =
-    let l = c .before .before .before .before .before .loop in
-    let m = text-small _ (c .before .before .before .before .before .before .before .before .pre) in
+    let l = c .before .before .before .before .before .before .before .before .before .before .before .before .before .loop in
+    let m = text-small _ (c .before .before .before .before .before .before .before .before .before .before .before .before .before .before .before .before .pre) in
     let e = line-passed-end (l .inv .2) (omega arith) m (c .before .before .next .result) (c .before .before .next .ensures) (c .before .if1 .left) in
-    omega (arith, e .0, e .1, c .before .before .before .line-end .ensures)
+    omega (arith, e .0, e .1, c .before .before .before .before .before .before .before .before .before .before .before .line-end .ensures)
 
 loop-again : tie.Need-loop-again Inv-loop μ-loop
 loop-again c =
-    let l = c .before .before .before .before .before .loop in
-    let m = text-small _ (c .before .before .before .before .before .before .before .before .pre) in
+    let l = c .before .before .before .before .before .before .before .before .before .before .before .before .before .loop in
+    let m = text-small _ (c .before .before .before .before .before .before .before .before .before .before .before .before .before .before .before .before .pre) in
     let e = line-passed-end (l .inv .2) (omega arith) m (c .before .before .next .result) (c .before .before .next .ensures) (c .before .if1 .left) in (
-      omega (arith, e .1, c .before .before .before .line-end .ensures),
-      omega (arith, e .0, c .before .before .before .line-end .ensures),
-      reached-next (l .inv .2) (omega arith) m (c .before .before .next .result) (c .before .before .next .ensures) (c .before .if1 .left) (omega (arith, c .before .before .before .line-end .ensures)),
+      omega (arith, e .1, c .before .before .before .before .before .before .before .before .before .before .before .line-end .ensures),
+      omega (arith, e .0, c .before .before .before .before .before .before .before .before .before .before .before .line-end .ensures),
+      reached-next (l .inv .2) (omega arith) m (c .before .before .next .result) (c .before .before .next .ensures) (c .before .if1 .left) (omega (arith, c .before .before .before .before .before .before .before .before .before .before .before .line-end .ensures)) (c .after .ensures),
     )
 
 finish-requires : tie.Need-finish-requires Inv-loop μ-loop
@@ -71,8 +91,13 @@ read-on-spec =
     fresh-requires
     loop-holds
     line-end-requires
+    slice-aggregate-next
+    slice-aggregate-next-2
+    slice-aggregate-next-3
+    slice-aggregate-next-4
     next-requires
     returns
+    after-requires
     add-at
     add-line
     loop-less

@@ -66,7 +66,7 @@ short-requires : tie.Need-short-requires
 short-requires c κs = tt
 
 returns : tie.Need-returns
-returns c = let a = (c .before .before .before .before .before .before .before .before .before .before .before .before .before .before .before .before .before .before .before .before .before .before .args) in let s = now (a .s) in let table = now (a .table) in (c .short) .ensures ∙ ap (shortLine NoForm 0 0) ((c .before .none) .ensures) ∙ line-broken table s (step-track table s (a .at) (a .depth) ((c .before .before .before .before .before .before .before .before .before .before .before .before .before .before .before .before .before .before .before .rule) .ensures) ((c .before .before .before .before .before .before .before .before .before .before .before .before .before .before .before .before .before .before .spaced) .ensures) ((c .before .before .before .before .before .before .before .before .before .before .before .before .before .before .before .before .before .spaced2) .ensures) ((c .before .before .before .before .before .before .before .before .before .before .before .before .before .before .before .before .spaced3) .ensures) ((c .before .before .before .before .before .before .before .before .before .before .before .before .before .before .before .spaced4) .ensures) ((c .before .before .before .before .before .before .before .before .before .before .before .before .before .before .spaced5) .ensures) ((c .before .before .before .before .before .before .before .before .before .before .before .before .word) .ensures) ((c .before .before .before .before .before .before .before .before .before .before .before .list) .ensures) ((c .before .before .before .before .before .before .before .before .before .word2) .ensures) ((c .before .before .before .before .before .before .before .before .list2) .ensures) ((c .before .before .before .before .before .before .word3) .ensures) ((c .before .before .before .before .before .clause) .ensures) ((c .before .before .before .word4) .ensures) refl) ((c .before .before .if1) .taken)
+returns c = let a = (c .before .before .before .before .before .before .before .before .before .before .before .before .before .before .before .before .before .before .before .before .before .before .args) in let s = now (a .s) in let table = now (a .table) in (c .short) .ensures ∙ ap (shortLine NoForm 0 0 0) ((c .before .none) .ensures) ∙ line-broken table s (step-track table s (a .at) (a .depth) ((c .before .before .before .before .before .before .before .before .before .before .before .before .before .before .before .before .before .before .before .rule) .ensures) ((c .before .before .before .before .before .before .before .before .before .before .before .before .before .before .before .before .before .before .spaced) .ensures) ((c .before .before .before .before .before .before .before .before .before .before .before .before .before .before .before .before .before .spaced2) .ensures) ((c .before .before .before .before .before .before .before .before .before .before .before .before .before .before .before .before .spaced3) .ensures) ((c .before .before .before .before .before .before .before .before .before .before .before .before .before .before .before .spaced4) .ensures) ((c .before .before .before .before .before .before .before .before .before .before .before .before .before .before .spaced5) .ensures) ((c .before .before .before .before .before .before .before .before .before .before .before .before .word) .ensures) ((c .before .before .before .before .before .before .before .before .before .before .before .list) .ensures) ((c .before .before .before .before .before .before .before .before .before .word2) .ensures) ((c .before .before .before .before .before .before .before .before .list2) .ensures) ((c .before .before .before .before .before .before .word3) .ensures) ((c .before .before .before .before .before .clause) .ensures) ((c .before .before .before .word4) .ensures) refl) ((c .before .before .if1) .taken)
 
 join-requires : tie.Need-join-requires
 join-requires c κs = tt
@@ -75,7 +75,7 @@ join-requires-2 : tie.Need-join-requires-2
 join-requires-2 c κs = tt
 
 returns-2 : tie.Need-returns-2
-returns-2 c = let a = (c .before .before .before .before .before .before .before .before .before .before .before .before .before .before .before .before .before .before .before .before .before .before .before .before .args) in let s = now (a .s) in let table = now (a .table) in line-whole table s (step-track table s (a .at) (a .depth) ((c .before .before .before .before .before .before .before .before .before .before .before .before .before .before .before .before .before .before .before .before .before .rule) .ensures) ((c .before .before .before .before .before .before .before .before .before .before .before .before .before .before .before .before .before .before .before .before .spaced) .ensures) ((c .before .before .before .before .before .before .before .before .before .before .before .before .before .before .before .before .before .before .before .spaced2) .ensures) ((c .before .before .before .before .before .before .before .before .before .before .before .before .before .before .before .before .before .before .spaced3) .ensures) ((c .before .before .before .before .before .before .before .before .before .before .before .before .before .before .before .before .before .spaced4) .ensures) ((c .before .before .before .before .before .before .before .before .before .before .before .before .before .before .before .before .spaced5) .ensures) ((c .before .before .before .before .before .before .before .before .before .before .before .before .before .before .word) .ensures) ((c .before .before .before .before .before .before .before .before .before .before .before .before .before .list) .ensures) ((c .before .before .before .before .before .before .before .before .before .before .before .word2) .ensures) ((c .before .before .before .before .before .before .before .before .before .before .list2) .ensures) ((c .before .before .before .before .before .before .before .before .word3) .ensures) ((c .before .before .before .before .before .before .before .clause) .ensures) ((c .before .before .before .before .before .word4) .ensures) ((c .join2) .ensures ∙ ap (joined _) ((c .before .join) .ensures))) (omega (arith, (c .before .before .before .before .if1) .left))
+returns-2 c = let a = (c .before .before .before .before .before .before .before .before .before .before .before .before .before .before .before .before .before .before .before .before .before .before .before .before .before .args) in let s = now (a .s) in let table = now (a .table) in line-whole table s (step-track table s (a .at) (a .depth) ((c .before .before .before .before .before .before .before .before .before .before .before .before .before .before .before .before .before .before .before .before .before .before .rule) .ensures) ((c .before .before .before .before .before .before .before .before .before .before .before .before .before .before .before .before .before .before .before .before .before .spaced) .ensures) ((c .before .before .before .before .before .before .before .before .before .before .before .before .before .before .before .before .before .before .before .before .spaced2) .ensures) ((c .before .before .before .before .before .before .before .before .before .before .before .before .before .before .before .before .before .before .before .spaced3) .ensures) ((c .before .before .before .before .before .before .before .before .before .before .before .before .before .before .before .before .before .before .spaced4) .ensures) ((c .before .before .before .before .before .before .before .before .before .before .before .before .before .before .before .before .before .spaced5) .ensures) ((c .before .before .before .before .before .before .before .before .before .before .before .before .before .before .before .word) .ensures) ((c .before .before .before .before .before .before .before .before .before .before .before .before .before .before .list) .ensures) ((c .before .before .before .before .before .before .before .before .before .before .before .before .word2) .ensures) ((c .before .before .before .before .before .before .before .before .before .before .before .list2) .ensures) ((c .before .before .before .before .before .before .before .before .before .word3) .ensures) ((c .before .before .before .before .before .before .before .before .clause) .ensures) ((c .before .before .before .before .before .before .word4) .ensures) ((c .join2) .ensures ∙ ap (joined _) ((c .before .join) .ensures))) (omega (arith, (c .before .before .before .before .before .if1) .left))
 
 pub step-line-spec : {M : Type 1} → statement M
 step-line-spec =

@@ -8,19 +8,10 @@ use Rattle.rules.proofs.steps.step.Lts as lts
 use Rattle.rules.proofs.steps.conclude.Reads as conclude-reads
 use Rattle.rules.proofs.steps.list.Reads as list-reads
 use Rattle.rules.proofs.steps.lists_fit.Reads as lists-fit-reads
-use Rattle.rules.proofs.steps.measure.Reads as measure-reads
 use Rattle.rules.proofs.steps.settled.Reads as settled-reads
 use Rattle.rules.proofs.uses.both.Reads as both-reads
 use Rattle.rules.proofs.uses.parents_below.Reads as parents-below-reads
 use Rattle.rules.proofs.uses.unused_zero.Reads as unused-zero-reads
-
--- src/steps.rt:122:9
-measure-requires : tie.Need-measure-requires
-measure-requires c κs = tt
-
--- src/steps.rt:123:9
-measure-requires-2 : tie.Need-measure-requires-2
-measure-requires-2 c κs = tt
 
 -- src/steps.rt:124:17
 list-requires : tie.Need-list-requires
@@ -65,14 +56,12 @@ settled-requires c κs = tt
 -- src/steps.rt:118:1
 returns : tie.Need-returns
 unfolding stepAt
-returns c = rw (c .settled .ensures, c .before .both .ensures, c .before .before .conclude .ensures, c .before .before .before .before .before .parents-below .ensures, c .before .before .before .before .before .before .lists-fit .ensures, c .before .before .before .before .before .before .before .unused-zero .ensures, c .before .before .before .before .before .before .before .before .list2 .ensures, c .before .before .before .before .before .before .before .before .before .list .ensures, c .before .before .before .before .before .before .before .before .before .before .measure2 .ensures, c .before .before .before .before .before .before .before .before .before .before .before .measure .ensures)
+returns c = rw (c .settled .ensures, c .before .both .ensures, c .before .before .conclude .ensures, c .before .before .before .before .before .parents-below .ensures, c .before .before .before .before .before .before .lists-fit .ensures, c .before .before .before .before .before .before .before .unused-zero .ensures, c .before .before .before .before .before .before .before .before .list2 .ensures, c .before .before .before .before .before .before .before .before .before .list .ensures)
 
 pub step-spec : {M : Type 1} → statement M
 step-spec =
     tie.close
     (tie.spec
-    measure-requires
-    measure-requires-2
     list-requires
     list-requires-2
     unused-zero-requires
