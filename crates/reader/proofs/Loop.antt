@@ -1,9 +1,12 @@
 -- Items after one space each, up to the closing bracket, read and summed up in one loop.
 use Prim.Native.Nat.{ℕ, suc, _+_, _≤_, _<_}
-use mathlib.Core.Path.{_≡_, refl, sym, _∙_, ap}
+use mathlib.Core.Path.{_≡_, refl, sym, _∙_, ap, subst}
+use mathlib.Core.Bool.{cond}
 use mathlib.Core.List.{List, [], _∷_, _++_}
 use native.Mathlib.Omega.{arith}
 use native.Mathlib.Decide.{decLe}
+use borrow.Author.Tests.{le-leb}
+use lib.Dec.{leb}
 use lib.ListN.{length, drop, length-drop, length-append}
 use Rattle.reader.specs.declared.summaries.Measure.{Measure}
 use Rattle.reader.specs.declared.summaries.Summary.{Summary}
@@ -132,3 +135,32 @@ module _ {A S : Type 0} (L : Listed A S) (s : List ℕ) (at : ℕ) where
             settled-track (L .list) s (onward s i (λ _. return (front (L .none))) (word-stops 41 []) q
             (w ∙ rw (L .step (drop i s) ∙ no-space-next (L .none) (L .more) (L .read) readAll (drop i s) (miss s i (word-stops 32 []) (g .space) k)) (after-after (strip (bytes ")") (drop i s)) (λ _. return (L .none)) (λ x. return (front x))))
             (λ l. l) λ _ _ _ l w. Track.found (front (L .none)) w l (sym (f (L .none) ∙ rw (L .of-none) (none-joined n m))))
+
+    -- Nothing was read.
+    pub over : (x : Measure) → length s < i → settled s (length s + 1) x ≡ summary (L .list) s (readAll (drop at s))
+    over x h = go (g .lane)
+      where
+        go : Lane i n m → settled s (length s + 1) x ≡ summary (L .list) s (readAll (drop at s))
+        go (lost b l) = settled-track (L .list) s (Track.lost b refl)
+        go (found front w l f) = absurd (omega arith)
+
+  -- The same at a place alone.
+  abbrev pub On : ℕ → ℕ → Measure → Type 0
+  On i n m = Going i n (endOf s (strip (bytes " ") (drop i s))) m
+
+  pub spaced : {i n next : ℕ} {m : Measure} → On i n m → next ≡ endOf s (strip (bytes " ") (drop i s)) → Going i n next m
+  spaced g h = record { lane = g .lane; few = g .few; space = h }
+
+  -- A turn goes on, to a place in the text or just past it.
+  pub turned : {i n next : ℕ} {m m' : Measure} {t : Summary} → Going i n next m → next ≤ length s → t ≡ summary (L .item) s (L .read (drop next s)) → m' ≡ joined m (t .measure) → On (t .end) (n + 1) m' × (i < t .end) × (t .end ≤ length s + 1)
+  turned g k e q = let b = going-on g k e in (turn g k e q refl, b .0, b .2)
+
+  -- The same with an item whose measure holds only where it was read.
+  pub advance : {i n next e : ℕ} {m m' : Measure} (x : Measure) → Going i n next m → next ≤ length s → settled s e x ≡ summary (L .item) s (L .read (drop next s)) → m' ≡ joined m x → On e (n + 1) m' × (i < e) × (e ≤ length s + 1)
+  unfolding settled
+  advance {i} {n} {next} {e} {m} {m'} x g k h q = let t = turned g k h refl in (rw q (record { lane = go (decLe e (length s)) (t .0 .lane); few = t .0 .few; space = refl }), t .1, t .2)
+    where
+      go : Dec (e ≤ length s) → Lane e (n + 1) (joined m (cond (leb e (length s)) x empty)) → Lane e (n + 1) (joined m x)
+      go (yes l) w = subst (λ y. Lane e (n + 1) (joined m y)) (rw (le-leb e (length s) l)) w
+      go (no l) (lost b l') = lost b l'
+      go (no l) (found front w l' f) = absurd (omega arith)

@@ -38,6 +38,11 @@ unfolding settled endOf
 settled-track measure s {e} (lost b l) = rw (b, l, lt-leb (length s + 1) (length s) (omega arith))
 settled-track measure s {e} (found a g l r) = rw (← end-at s l g, g, le-leb e (length s) l, r)
 
+-- Past the end the measure given does not matter.
+pub settled-past : (s : List ℕ) (x y : Measure) → settled s (length s + 1) x ≡ settled s (length s + 1) y
+unfolding settled
+settled-past s x y = rw (lt-leb (length s + 1) (length s) (omega arith))
+
 pub ending : {r q : Summary} → r ≡ q → r .end ≡ q .end
 ending h = ap (λ (r : Summary). r .end) h
 

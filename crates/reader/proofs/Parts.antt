@@ -14,7 +14,7 @@ use Rattle.reader.specs.declared.summaries.Measure.{Measure}
 use Rattle.reader.specs.declared.summaries.Summary.{Summary}
 use Rattle.reader.specs.Words.{bytes}
 use Rattle.reader.specs.Write.{putTerms}
-use Rattle.reader.specs.Read.{Parsed, bad, strip, oneOf, readNumber, readItems, readMany, readTerms, readVariable, readApplied, readTerm}
+use Rattle.reader.specs.Read.{Parsed, bad, got, strip, oneOf, readNumber, readNext, readItems, readMany, readTerms, readVariable, readApplied, readTerm}
 use Rattle.reader.specs.Places.{endOf, readOr, numberAt}
 use Rattle.reader.specs.Summary.{empty, joined, counted, summary, settled, termMeasure, termsMeasure, appliedMeasure}
 use Rattle.reader.proofs.Gives.{Gives, nothing, gives}
@@ -22,7 +22,8 @@ use Rattle.reader.proofs.Number.{number-sound}
 use Rattle.reader.proofs.Plain.{_⨾_, close, number-plain, term-plain, terms-plain, put-grows}
 use Rattle.reader.proofs.Items.{terms, many-sound}
 use Rattle.reader.proofs.Sound.{term-sound}
-use Rattle.reader.proofs.Chain.{Stops, stops, word-stops, lost, found, onward, lose, hit, miss, first-word, later-word, last-word}
+use Rattle.reader.proofs.Places.{end-at}
+use Rattle.reader.proofs.Chain.{Stops, stops, word-stops, lost, found, onward, lose, hit, first-word, later-word, last-word}
 use Rattle.reader.proofs.Rest.{terms-step}
 use Rattle.reader.proofs.Loop.{Listed}
 use Rattle.reader.proofs.Measuring.{settled-track, ending, measuring, number-end, number-value}
@@ -71,8 +72,21 @@ module _ (table s : List ℕ) (at : ℕ) where
   variable-term zero n h l = absurd (n refl)
   variable-term (suc d) n h l = first-word "(v " _ _ (drop at s) (hit s at (word-stops 40 (118 ∷ 32 ∷ [])) h l .1)
 
-  pub applied-term : (d : ℕ) {v w : ℕ} {f : NumberAt} {parts : Summary} → (d ≡ 0 → ⊥) → v ≡ endOf s (strip (bytes "(v ") (drop at s)) → length s < v → w ≡ endOf s (strip (bytes "(f ") (drop at s)) → f ≡ numberAt s (readNumber (drop w s)) → parts ≡ summary (termsMeasure table) s (readTerms (readTerm (d - 1)) (drop (f .end) s)) → settled s (parts .end) (appliedMeasure table (f .value) (parts .measure)) ≡ summary (termMeasure table) s (readTerm d (drop at s))
-  applied-term d n h l i j k = applied-sum (d - 1) (miss s at (word-stops 40 (118 ∷ 32 ∷ [])) h l) i j k ∙ ap (λ d. summary (termMeasure table) s (readTerm d (drop at s))) (omega arith)
+  pub applied-term : (d : ℕ) {w : ℕ} {f : NumberAt} {parts : Summary} → (d ≡ 0 → ⊥) → strip (bytes "(v ") (drop at s) ≡ bad → w ≡ endOf s (strip (bytes "(f ") (drop at s)) → f ≡ numberAt s (readNumber (drop w s)) → parts ≡ summary (termsMeasure table) s (readTerms (readTerm (d - 1)) (drop (f .end) s)) → settled s (parts .end) (appliedMeasure table (f .value) (parts .measure)) ≡ summary (termMeasure table) s (readTerm d (drop at s))
+  applied-term d n v i j k = applied-sum (d - 1) v i j k ∙ ap (λ d. summary (termMeasure table) s (readTerm d (drop at s))) (omega arith)
+
+  -- No word of a term stands there.
+  pub other-term : (m : Measure) (d : ℕ) → strip (bytes "(v ") (drop at s) ≡ bad → strip (bytes "(f ") (drop at s) ≡ bad → settled s (length s + 1) m ≡ summary (termMeasure table) s (readTerm d (drop at s))
+  unfolding readTerm
+  other-term m zero v f = settled-track (termMeasure table) s (lost refl refl)
+  other-term m (suc d) v f = settled-track (termMeasure table) s (lost (later-word "(v " _ _ (drop at s) v ∙ last-word "(f " _ (drop at s) ∙ rw f) refl)
+
+  -- No parts: the bracket closes right away.
+  pub no-parts : (d : ℕ) {e : ℕ} → e ≡ endOf s (strip (bytes ")") (drop at s)) → e ≤ length s → record { end = e; measure = empty } ≡ summary (termsMeasure table) s (readTerms (readTerm d) (drop at s))
+  unfolding readNext termsMeasure count eachTerms termsWidth
+  no-parts d h l =
+      let q : readTerms (readTerm d) (drop at s) ≡ got nil _ = terms-step d (drop at s) ∙ first-word ")" _ _ (drop at s) (hit s at (word-stops 41 []) h l .1) in
+      rw (← end-at s l q, q)
 
 -- Terms up to the closing bracket.
 pub terms-none : (table : List ℕ) → termsMeasure table nil ≡ empty

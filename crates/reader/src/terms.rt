@@ -7,7 +7,8 @@ use crate::summaries::join;
 use crate::summaries::none;
 use crate::summaries::recount;
 use crate::summaries::settle;
-use crate::words::word;
+use crate::words::closes;
+use crate::words::letter;
 ghost use mathlib.Core.Path.{_≡_};
 ghost use mathlib.Core.Bool.{_&&_};
 ghost use lib.ListN.{drop};
@@ -30,14 +31,17 @@ fn variable(s: &[u8], at: usize, table: &[u8]) -> Summary
     ensures { λ r. ⌜ r ≡ summary (termMeasure (now (table .entry))) (now (s .entry)) (readVariable (drop at (now (s .entry)))) ⌝ }
 {
     let n = number(s, at);
-    let e = word(s, n.end, b")");
+    let end = n.end;
+    if !closes(s, end) {
+        return settle(s, s.len() + 1, none());
+    }
     let m = Measure {
         count: 1,
         width: n.value + 1,
         arguments: 0,
         declared: true,
     };
-    settle(s, e, m)
+    settle(s, end + 1, m)
 }
 
 // Symbol f applied to the terms that are summed up in `parts`.
@@ -53,6 +57,50 @@ fn applied(f: usize, parts: Measure, table: &[u8]) -> Measure
     }
 }
 
+// Terms, each after one space, up to the closing bracket.
+pub fn terms(s: &[u8], at: usize, depth: usize, table: &[u8]) -> Summary
+    ensures { λ r. ⌜ r ≡ summary (termsMeasure (now (table .entry))) (now (s .entry)) (readTerms (readTerm depth) (drop at (now (s .entry)))) ⌝ }
+{
+    let n = s.len();
+    let mut i = at;
+    let mut m = none();
+    let mut count = 0;
+    while i < n {
+        if s[i] != b' ' {
+            if s[i] != b')' {
+                return settle(s, n + 1, none());
+            }
+            return settle(s, i + 1, recount(count, m));
+        }
+        if depth == 0 {
+            return settle(s, n + 1, none());
+        }
+        let next = i + 1;
+        let b = letter(s, next);
+        if b == b'f' {
+            let f = number(s, next + 3);
+            let end = f.end;
+            if closes(s, end) {
+                i = end + 1;
+                m = join(m, applied(f.value, none(), table));
+            } else {
+                let p = terms(s, end, depth - 1, table);
+                i = p.end;
+                m = join(m, applied(f.value, p.measure, table));
+            }
+        } else {
+            if b != b'v' {
+                return settle(s, n + 1, none());
+            }
+            let t = variable(s, next + 3, table);
+            i = t.end;
+            m = join(m, t.measure);
+        }
+        count += 1;
+    }
+    settle(s, n + 1, none())
+}
+
 // A term at most `depth` terms deep.
 pub fn term(s: &[u8], at: usize, depth: usize, table: &[u8]) -> Summary
     ensures { λ r. ⌜ r ≡ summary (termMeasure (now (table .entry))) (now (s .entry)) (readTerm depth (drop at (now (s .entry)))) ⌝ }
@@ -60,31 +108,18 @@ pub fn term(s: &[u8], at: usize, depth: usize, table: &[u8]) -> Summary
     if depth == 0 {
         return settle(s, s.len() + 1, none());
     }
-    let v = word(s, at, b"(v ");
-    if v <= s.len() {
-        return variable(s, v, table);
+    let b = letter(s, at);
+    if b == b'f' {
+        let f = number(s, at + 3);
+        let end = f.end;
+        if closes(s, end) {
+            return settle(s, end + 1, applied(f.value, none(), table));
+        }
+        let p = terms(s, end, depth - 1, table);
+        return settle(s, p.end, applied(f.value, p.measure, table));
     }
-    let w = word(s, at, b"(f ");
-    let f = number(s, w);
-    let parts = terms(s, f.end, depth - 1, table);
-    settle(s, parts.end, applied(f.value, parts.measure, table))
-}
-
-// Terms, each after one space, up to the closing bracket.
-pub fn terms(s: &[u8], at: usize, depth: usize, table: &[u8]) -> Summary
-    ensures { λ r. ⌜ r ≡ summary (termsMeasure (now (table .entry))) (now (s .entry)) (readTerms (readTerm depth) (drop at (now (s .entry)))) ⌝ }
-{
-    let mut i = at;
-    let mut m = none();
-    let mut count = 0;
-    let mut next = word(s, at, b" ");
-    while next <= s.len() {
-        let t = term(s, next, depth, table);
-        i = t.end;
-        m = join(m, t.measure);
-        count += 1;
-        next = word(s, i, b" ");
+    if b != b'v' {
+        return settle(s, s.len() + 1, none());
     }
-    let e = word(s, i, b")");
-    settle(s, e, recount(count, m))
+    variable(s, at + 3, table)
 }
