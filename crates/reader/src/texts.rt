@@ -1,8 +1,42 @@
 // The text as a whole: its size, its lines and its parts.
+ghost use Prim.Native.Nat.{_+_, _≤_};
 ghost use mathlib.Core.Path.{_≡_};
-ghost use lib.ListN.{drop};
+ghost use mathlib.Core.Bool.{true};
+ghost use lib.ListN.{length, drop};
 ghost use Rattle.reader.specs.Figures.{office};
-ghost use Rattle.reader.specs.Size.{lineEndAt, lineCount, tooLarge, endedAt};
+ghost use Rattle.reader.specs.Size.{lineLength, lineEndAt, lineCount, tooLarge, endedAt};
+
+// Whether no line end stands among the 16 bytes at `at`.
+fn clear(text: &[u8], at: usize) -> bool
+    requires { ⌜ at + 16 ≤ length (now text) ⌝ }
+    ensures { λ r. ⌜ (r ≡ true → lineLength (drop at (now (text .entry))) ≡ 16 + lineLength (drop (at + 16) (now (text .entry)))) ⌝ }
+{
+    let mut none = true;
+    let mut k = 0;
+    while k < 16 {
+        if text[at + k] == 10 {
+            none = false;
+        }
+        k += 1;
+    }
+    none
+}
+
+// A place at or before the first line end, by steps of 16 bytes.
+fn near(text: &[u8], at: usize) -> usize
+    requires { ⌜ at ≤ length (now text) ⌝ }
+    ensures { λ r. ⌜ (r ≤ length (now (text .entry))) × (r + lineLength (drop r (now (text .entry))) ≡ at + lineLength (drop at (now (text .entry)))) ⌝ }
+{
+    let n = text.len();
+    let mut i = at;
+    while n - i >= 16 {
+        if !clear(text, i) {
+            return i;
+        }
+        i += 16;
+    }
+    i
+}
 
 // The place of the first line end at or after `at`, or the end of the text.
 pub fn line_end(text: &[u8], at: usize) -> usize
@@ -12,7 +46,7 @@ pub fn line_end(text: &[u8], at: usize) -> usize
     if at >= n {
         return n;
     }
-    let mut i = at;
+    let mut i = near(text, at);
     while i < n {
         if text[i] == 10 {
             return i;
@@ -24,9 +58,10 @@ pub fn line_end(text: &[u8], at: usize) -> usize
 
 // The number of lines: the line ends, and one more for bytes after the last of them.
 fn lines(text: &[u8]) -> usize
+    requires { ⌜ length (now text) ≤ 65535 ⌝ }
     ensures { λ r. ⌜ r ≡ lineCount (now (text .entry)) ⌝ }
 {
-    let mut count: usize = 0;
+    let mut count: u16 = 0;
     let mut begun = false;
     let mut i = 0;
     while i < text.len() {
@@ -38,7 +73,8 @@ fn lines(text: &[u8]) -> usize
         }
         i += 1;
     }
-    if begun { count + 1 } else { count }
+    let ended = count as usize;
+    if begun { ended + 1 } else { ended }
 }
 
 // Check 1.

@@ -35,6 +35,9 @@ loop-less c = omega arith
 loop-again : tie.Need-loop-again Inv-loop μ-loop
 loop-again c = let l = (c .before .before .before .loop) in let x = now ((c .before .before .before .before .args) .text) in ⊎-elim (λ w. (omega arith, omega arith, rw (w .2) (omega (arith, l .inv .2, count-end x (l .i) (l .begun) (omega arith) (w .0 .taken))))) (λ w. (omega arith, omega arith, rw (w .2) (omega (arith, l .inv .2, count-byte x (l .i) (l .begun) (omega arith) (w .0 .left))))) ((c .if1) .came)
 
+cast-ended : tie.Need-cast-ended Inv-loop μ-loop
+cast-ended c = omega arith
+
 add-result : tie.Need-add-result Inv-loop μ-loop
 add-result c = omega arith
 
@@ -56,6 +59,7 @@ lines-spec =
     add-i
     loop-less
     loop-again
+    cast-ended
     add-result
     returns
     returns-2)

@@ -12,7 +12,7 @@ unfolding tooLarge office
 returns c = rw (lt-ltb 65535 (length (now (c .before .before .args .text))) (omega arith))
 
 lines-requires : tie.Need-lines-requires
-lines-requires c κs = tt
+lines-requires c κs = omega arith
 
 returns-2 : tie.Need-returns-2
 unfolding tooLarge office
