@@ -3,7 +3,7 @@ use Prim.Native.Nat.{ℕ, zero, suc, _+_, _-_, _≤_, _<_}
 use mathlib.Core.Path.{_≡_, refl, sym, _∙_, ap}
 use mathlib.Core.List.{List, [], _∷_, _++_}
 use native.Mathlib.Omega.{arith}
-use lib.ListN.{length, take, drop, getD, set, length-drop, length-append, drop-of-length-le, List·getD-eq-default}
+use lib.ListN.{length, take, drop, getD, set, replicate, length-drop, length-append, drop-of-length-le, List·getD-eq-default}
 use lib.Seq.{drop-drop, drop-at, drop-length, take-suc-set, append-snoc}
 use native.Mathlib.Decide.{decLe}
 use borrow.Author.Tests.{eq-eqb, ne-eqb, lt-ltb, le-ltb, le-leb, lt-leb}
@@ -204,6 +204,16 @@ pub places-zero : (s : List ℕ) (at n : ℕ) → n ≤ 0 → places s n at ≡ 
 unfolding places
 places-zero s at zero h = refl
 places-zero s at (suc n) h = absurd (omega arith)
+
+-- Past the end there are no more items.
+pub places-past : (s : List ℕ) (n : ℕ) → places s n (length s + 1) ≡ replicate n (length s + 1)
+unfolding places passItem strip endOf
+places-past s zero = refl
+places-past s (suc n) = let l : length s ≤ length s + 1 = omega arith in rw (drop-of-length-le s l, places-past s n)
+
+pub replicate-fewer : (n e : ℕ) → drop 1 (replicate n e) ≡ replicate (n - 1) e
+replicate-fewer zero e = refl
+replicate-fewer (suc n) e = let k : suc n - 1 ≡ n = omega arith in rw k
 
 -- The array after one store more.
 pub places-more : (s found : List ℕ) (at n : ℕ) → length found ≡ 33 → n < 32 → let p = endOf s (passItem (drop at s)) in take (n + 1 + 1) (set found (n + 1) p) ++ places s (32 - (n + 1)) (endOf s (passItem (drop p s))) ≡ take (n + 1) found ++ places s (32 - n) p

@@ -97,11 +97,15 @@ pub fn count(s: &[u8], at: usize, most: usize) -> usize
 pub fn starts(s: &[u8], at: usize) -> [usize; 33]
     ensures { λ r. ⌜ r ≡ places (now (s .entry)) 33 at ⌝ }
 {
-    let mut found = [at; 33];
+    let mut found = [s.len() + 1; 33];
+    found[0] = at;
     let mut place = at;
     let mut n = 0;
     while n < 32 {
         place = pass(s, place);
+        if place > s.len() {
+            return found;
+        }
         n += 1;
         found[n] = place;
     }
