@@ -12,6 +12,9 @@ pub fn word(s: &[u8], at: usize, w: &[u8]) -> usize
     ensures { λ r. ⌜ r ≡ endOf (now (s .entry)) (strip (now (w .entry)) (drop at (now (s .entry)))) ⌝ }
 {
     let n = s.len();
+    if w.len() == 0 {
+        return if at < n { at } else { n };
+    }
     let mut j = at;
     let mut i = 0;
     while i < w.len() {
@@ -24,7 +27,7 @@ pub fn word(s: &[u8], at: usize, w: &[u8]) -> usize
         j += 1;
         i += 1;
     }
-    if j < n { j } else { n }
+    j
 }
 
 // Whether a closing bracket stands at the place.
