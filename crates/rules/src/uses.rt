@@ -1,7 +1,7 @@
 // Which of the numbers A I B J K each rule uses: checks 7 and 8 go by this table.
 use logic::Rule;
+use reader::summaries::both;
 ghost use mathlib.Core.Path.{_≡_};
-ghost use mathlib.Core.Bool.{_&&_};
 ghost use Rattle.logic.specs.Judge.{below as belowIf, zeroIfUnused};
 ghost use Rattle.rules.specs.Uses.{ruleRow, usesAt, parentNumbers, unusedNumbers};
 
@@ -63,13 +63,6 @@ fn zero_if_unused(is_used: bool, n: usize) -> bool
     ensures { λ r. ⌜ r ≡ zeroIfUnused «is_used» n ⌝ }
 {
     if is_used { true } else { n == 0 }
-}
-
-// Both tests pass.
-pub fn both(x: bool, y: bool) -> bool
-    ensures { λ r. ⌜ r ≡ x && y ⌝ }
-{
-    if x { y } else { false }
 }
 
 // Check 7: "A used parent number isn't below the step's own."
