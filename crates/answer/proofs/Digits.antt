@@ -9,7 +9,7 @@ use native.Mathlib.Omega.{arith}
 use lib.Dec.{ltb, leb, lit<}
 use borrow.Author.Tests.{lt-ltb, le-ltb, leb-true, leb-false}
 use Rattle.io.specs.Digits.{glyph, digits, Fewest}
-use Rattle.reader.specs.Write.{putDigits, putNumber}
+use Rattle.text.specs.Write.{putDigits, putNumber}
 use Rattle.answer.specs.Line.{numeral}
 
 small-glyph : (d : ℕ) → d < 10 → glyph d ≡ 48 + d

@@ -1,8 +1,8 @@
 -- "The program `fcheck` .. prints one line: the word refuted, open or refused, then the verdict's numbers."
 use Prim.Native.Nat.{ℕ}
 use mathlib.Core.List.{List, [], _∷_, _++_}
-use Rattle.reader.specs.Words.{bytes, lineEnd}
-use Rattle.reader.specs.Write.{putNumber}
+use Rattle.text.specs.Words.{bytes, lineEnd}
+use Rattle.text.specs.Write.{putNumber}
 use Rattle.verdict.specs.declared.Verdict.{Verdict}
 use Rattle.verdict.specs.Answer.{word, numbers}
 

@@ -1,6 +1,6 @@
 // `check` for callers in C and Rust: a verdict as three numbers.
 ghost use mathlib.Core.Path.{_≡_};
-ghost use Rattle.reader.specs.Figures.{office};
+ghost use Rattle.text.specs.Figures.{office};
 ghost use Rattle.verdict.specs.Answer.{verdict};
 ghost use Rattle.capi.specs.Numbered.{wordNumber, firstNumber, secondNumber};
 use verdict::Verdict;

@@ -15,18 +15,18 @@ use Rattle.logic.specs.Syntax as syntax
 use Rattle.logic.specs.Each.{any, declares, eachTerms, eachClause, width}
 use Rattle.logic.proofs.Both.{right}
 use Rattle.reader.specs.declared.states.State as code
-use Rattle.reader.specs.Write.{putClause}
-use Rattle.reader.specs.Read.{Reading, form, noForm, readLine}
-use Rattle.reader.specs.Form.{formedNumber, formedTerms, formedClause, formedStep, formedLine}
-use Rattle.reader.specs.Figures.{office}
+use Rattle.text.specs.Write.{putClause}
+use Rattle.text.specs.Read.{Reading, form, noForm, readLine}
+use Rattle.text.specs.Form.{formedNumber, formedTerms, formedClause, formedStep, formedLine}
+use Rattle.text.specs.Figures.{office}
 use Rattle.reader.specs.State.{State, fresh, claimOf, clauses, advance, isEmpty, ordered, hasConstant, constantReady, clauseFits, listFits, withinLimits, symbolsDeclared, lineFailure, after}
-use Rattle.reader.specs.Summary.{joined, termsMeasure, clauseMeasure}
-use Rattle.reader.specs.LineAt.{formNumber, fromClause, placeOf, stepMeasure, lineOf}
+use Rattle.lines.specs.Summary.{joined, termsMeasure, clauseMeasure}
+use Rattle.lines.specs.LineAt.{formNumber, fromClause, placeOf, stepMeasure, lineOf}
 use Rattle.reader.specs.ReadLine.{freshState, heldTable, clauseFailure, failureIn, failureOf, seenAt, placed, byteOf, countedIn, addedBy, withSymbol, withClause, withAdded}
 use Rattle.reader.specs.Represents.{Stands, Represents, readFailure}
-use Rattle.reader.proofs.Plain.{clause-plain, in-front}
-use Rattle.reader.proofs.Sound.{line-sound}
-use Rattle.reader.proofs.LineParts.{input-place, claim-place}
+use Rattle.text.proofs.Plain.{clause-plain, in-front}
+use Rattle.text.proofs.Sound.{line-sound}
+use Rattle.lines.proofs.LineParts.{input-place, claim-place}
 use Rattle.reader.proofs.Limits.{clause-limits, input-limits, step-limits}
 use Rattle.reader.proofs.StateCode.{zero-or, sym-passed}
 

@@ -10,14 +10,14 @@ use lib.ListN.{length}
 use Rattle.logic.specs.Syntax.{Term, var, app, Terms, nil, cons, Atom, link, obj, method, lit, Clause, Step, by, input}
 use Rattle.logic.specs.Terms.{count, termsOf}
 use Rattle.logic.specs.Each.{eachTerm, eachTerms, eachAtom, eachClause, termWidth, termsWidth, width}
-use Rattle.reader.specs.declared.forms.LineAt.{LineAt}
-use Rattle.reader.specs.Figures.{Figures, office}
-use Rattle.reader.specs.Read.{form}
+use Rattle.lines.specs.declared.forms.LineAt.{LineAt}
+use Rattle.text.specs.Figures.{Figures, office}
+use Rattle.text.specs.Read.{form}
 use Rattle.reader.specs.State.{argumentsFit, argumentsFitAll, anySymbol, clauseFits, listFits}
-use Rattle.reader.specs.Summary.{joined, termsMeasure, clauseMeasure, argumentCount, mostArguments}
-use Rattle.reader.specs.LineAt.{stepMeasure, lineOf}
+use Rattle.lines.specs.Summary.{joined, termsMeasure, clauseMeasure, argumentCount, mostArguments}
+use Rattle.lines.specs.LineAt.{stepMeasure, lineOf}
 use Rattle.reader.specs.ReadLine.{lineFits}
-use Rattle.reader.proofs.Tests.{T-and}
+use Rattle.text.proofs.Tests.{T-and}
 
 -- Two tests that hold alike are equal.
 pub same-test : (a b : Bool) → (T a → T b) → (T b → T a) → a ≡ b

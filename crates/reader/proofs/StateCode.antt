@@ -10,16 +10,16 @@ use lib.ListN.{length, getD, take, drop}
 use lib.Seq.{take-all}
 use native.Mathlib.Decide.{decLe}
 use Rattle.reader.specs.State.{hasConstant}
-use Rattle.reader.specs.declared.forms.Form.{Form}
-use Rattle.reader.specs.declared.forms.Form.the-variants.{NoForm, Sym, Input, By}
-use Rattle.reader.specs.declared.forms.LineAt.{LineAt}
-use Rattle.reader.specs.LineAt.{formNumber}
+use Rattle.lines.specs.declared.forms.Form.{Form}
+use Rattle.lines.specs.declared.forms.Form.the-variants.{NoForm, Sym, Input, By}
+use Rattle.lines.specs.declared.forms.LineAt.{LineAt}
+use Rattle.lines.specs.LineAt.{formNumber}
 use Rattle.reader.specs.declared.states.State.{State}
 use Rattle.reader.specs.declared.states.Seen.{Seen}
 use Rattle.reader.specs.declared.states.Added.{Added}
 use Rattle.reader.specs.ReadLine.{heldTable, lineFits, clauseFailure, failureIn, failureOf, seenAt, countedIn, addedBy, withSymbol, withClause, withAdded, readOn, readLineAt}
-use Rattle.reader.proofs.Tests.{T-and}
-use Rattle.reader.proofs.Places.{at-byte, past}
+use Rattle.text.proofs.Tests.{T-and}
+use Rattle.text.proofs.Places.{at-byte, past}
 
 module _ (table : List ℕ) (i : ℕ) where
   pub constant-here : i < length table → getD table i 0 ≡ 0 → hasConstant (drop i table) ≡ true

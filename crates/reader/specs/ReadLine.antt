@@ -4,15 +4,15 @@ use mathlib.Core.Bool.{Bool, cond, _&&_}
 use mathlib.Core.List.{List}
 use lib.Dec.{leb, ltb, eqb}
 use lib.ListN.{take, set, replicate}
-use Rattle.reader.specs.declared.forms.Form.{Form}
-use Rattle.reader.specs.declared.forms.Form.the-variants.{NoForm, Sym, Input, By}
-use Rattle.reader.specs.declared.forms.LineAt.{LineAt}
+use Rattle.lines.specs.declared.forms.Form.{Form}
+use Rattle.lines.specs.declared.forms.Form.the-variants.{NoForm, Sym, Input, By}
+use Rattle.lines.specs.declared.forms.LineAt.{LineAt}
 use Rattle.reader.specs.declared.states.State.{State}
 use Rattle.reader.specs.declared.states.Seen.{Seen}
 use Rattle.reader.specs.declared.states.Added.{Added}
 use Rattle.reader.specs.declared.states.Read.{Read}
-use Rattle.reader.specs.Read.{readLine}
-use Rattle.reader.specs.LineAt.{formNumber, lineOf}
+use Rattle.text.specs.Read.{readLine}
+use Rattle.lines.specs.LineAt.{formNumber, lineOf}
 use Rattle.reader.specs.State.{hasConstant}
 
 -- "The fresh reading state is built from [0; 256] and [0; 1024]."

@@ -7,10 +7,10 @@ use lib.ListN.{length, getD, drop}
 use Rattle.logic.specs.Syntax.{Clause}
 use Rattle.logic.specs.Each.{width}
 use Rattle.reader.specs.declared.states.State as code
-use Rattle.reader.specs.Write.{putClause}
-use Rattle.reader.specs.Read.{Reading, form, noForm}
-use Rattle.reader.specs.Figures.{office}
-use Rattle.reader.specs.Form.{formedClause}
+use Rattle.text.specs.Write.{putClause}
+use Rattle.text.specs.Read.{Reading, form, noForm}
+use Rattle.text.specs.Figures.{office}
+use Rattle.text.specs.Form.{formedClause}
 use Rattle.reader.specs.State.{State, clauses, clauseFits, lineFailure}
 use Rattle.reader.specs.ReadLine.{heldTable}
 

@@ -7,8 +7,8 @@ use lib.ListN.{length}
 use Rattle.logic.specs.Syntax.{Term, Terms, Atom, link, obj, method, Literal, lit, Clause, Step, Line, sym, input, by}
 use Rattle.logic.specs.Terms.{count, termsOf}
 use Rattle.logic.specs.Each.{eachTerms, eachClause, declares, any}
-use Rattle.reader.specs.Read.{Reading, form, noForm}
-use Rattle.reader.specs.Figures.{Figures}
+use Rattle.text.specs.Read.{Reading, form, noForm}
+use Rattle.text.specs.Figures.{Figures}
 
 -- "After each line the reading holds the argument counts of up to 256 symbols and the place of every clause."
 -- The symbol table, the input clauses and the steps read so far.

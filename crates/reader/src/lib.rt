@@ -1,13 +1,2 @@
-// The text form. Its definitions are in specs/, their laws in proofs/.
-pub mod access;
-pub mod atoms;
-pub mod clauses;
-pub mod forms;
-pub mod kinds;
-pub mod numbers;
+// The reading state, and checks 2 to 6 of a line. The definitions are in specs/, their laws in proofs/.
 pub mod states;
-pub mod summaries;
-pub mod tables;
-pub mod terms;
-pub mod texts;
-pub mod words;

@@ -1,11 +1,11 @@
 // The reading state: the argument counts of the symbols and the places of the clauses. Checks 2 to 6 of a line.
-use crate::forms::Form;
-use crate::forms::INPUT;
-use crate::forms::LineAt;
-use crate::forms::SYM;
-use crate::forms::form_number;
-use crate::forms::line;
-use crate::summaries::larger;
+use lines::forms::Form;
+use lines::forms::INPUT;
+use lines::forms::LineAt;
+use lines::forms::SYM;
+use lines::forms::form_number;
+use lines::forms::line;
+use lines::summaries::larger;
 ghost use mathlib.Core.Path.{_≡_};
 ghost use Prim.Native.Nat.{_+_, _<_, _≤_};
 ghost use Rattle.reader.specs.State.{hasConstant};

@@ -12,15 +12,15 @@ use Rattle.logic.specs.Syntax.{Term, Terms, Atom}
 use Rattle.logic.specs.Terms.{termsOf}
 use Rattle.logic.specs.Each.{atomOver, termWidth, termsWidth}
 use Rattle.logic.specs.Fill.{Substitution, fill, fills, fillAtom}
-use Rattle.reader.specs.Write.{putTerm, putArguments, putAtom}
-use Rattle.reader.specs.Form.{formedNumber, numbered, numbereds, formedTerm, formedTerms, formedAtom}
-use Rattle.reader.specs.Read.{Parsed, bad, got}
-use Rattle.reader.proofs.Unique.{term-unique, arguments-unique}
-use Rattle.reader.proofs.Deep.{formedSymbol}
+use Rattle.text.specs.Write.{putTerm, putArguments, putAtom}
+use Rattle.text.specs.Form.{formedNumber, numbered, numbereds, formedTerm, formedTerms, formedAtom}
+use Rattle.text.specs.Read.{Parsed, bad, got}
+use Rattle.text.proofs.Unique.{term-unique, arguments-unique}
+use Rattle.text.proofs.Deep.{formedSymbol}
 use Rattle.rules.specs.Filled.{plain, sameItem, endsOf}
 use Rattle.rules.specs.Rows.{within, agreeAt}
 use Rattle.rules.proofs.Alike.{Fills, term-fills, same-term, same-term-only, same-arguments, same-arguments-only, same-atom, same-atom-only}
-use Rattle.reader.proofs.Trees.{Below}
+use Rattle.text.proofs.Trees.{Below}
 use Rattle.rules.proofs.Filling.{trees}
 use Rattle.rules.proofs.Placing.{Stands}
 use Rattle.rules.proofs.Claimed.{Entries}

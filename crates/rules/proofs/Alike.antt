@@ -11,15 +11,15 @@ use Rattle.logic.specs.Syntax.{Term, Terms, Atom}
 use Rattle.logic.specs.Terms.{termsOf}
 use Rattle.logic.specs.Each.{termWidth, termsWidth}
 use Rattle.logic.specs.Fill.{Substitution, fill, fills, fillAtom}
-use Rattle.reader.specs.Write.{putNumber, putTerm, putArguments, putAtom}
-use Rattle.reader.specs.Form.{formedNumber, formedTerm, formedTerms, formedAtom}
-use Rattle.reader.specs.Read.{Parsed, bad, got, Reader, after, oneOf, strip, digit}
-use Rattle.reader.specs.Access.{closing, skipItem}
-use Rattle.reader.proofs.Tests.{onTest}
-use Rattle.reader.proofs.Gives.{Gives, nothing, gives, given, weaken, bind, strip-gives, none, branch, oneOf-meets}
-use Rattle.reader.proofs.Number.{number-complete}
-use Rattle.reader.proofs.Trees.{Tree, var, node, Trees, end, byte, part, putTree, putInside, Clean, CleanIn, Within, WithinIn, Below, treeTerm, treeArguments, treeAtom, put-term, put-arguments, put-atom, clean-term, clean-arguments, clean-atom, within-term, within-arguments, within-atom}
-use Rattle.reader.proofs.Nesting.{inner-tests}
+use Rattle.text.specs.Write.{putNumber, putTerm, putArguments, putAtom}
+use Rattle.text.specs.Form.{formedNumber, formedTerm, formedTerms, formedAtom}
+use Rattle.text.specs.Read.{Parsed, bad, got, Reader, after, oneOf, strip, digit}
+use Rattle.text.specs.Access.{closing, skipItem}
+use Rattle.text.proofs.Tests.{onTest}
+use Rattle.text.proofs.Gives.{Gives, nothing, gives, given, weaken, bind, strip-gives, none, branch, oneOf-meets}
+use Rattle.text.proofs.Number.{number-complete}
+use Rattle.text.proofs.Trees.{Tree, var, node, Trees, end, byte, part, putTree, putInside, Clean, CleanIn, Within, WithinIn, Below, treeTerm, treeArguments, treeAtom, put-term, put-arguments, put-atom, clean-term, clean-arguments, clean-atom, within-term, within-arguments, within-atom}
+use Rattle.text.proofs.Nesting.{inner-tests}
 use Rattle.rules.specs.Filled.{Filler, front, insideUpTo, inside, readIndex, indexed, instead, fillItem, matches, along, whole, both, turned, sameItem}
 use Rattle.rules.proofs.Filling.{fillTree, fillTrees, tree-longer, not-variable, Clear, after-it, fill-tree, trees, tree-term, tree-arguments, tree-atom}
 use Rattle.rules.proofs.Walk.{Pair, inside-open, inside-close, inside-on, fill-shrinks, fill-variable, fill-bracket}

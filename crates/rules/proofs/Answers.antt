@@ -4,13 +4,14 @@ use mathlib.Core.Path.{_≡_, refl, sym, _∙_, ap}
 use mathlib.Core.List.{List, [], _∷_}
 use native.Mathlib.Omega.{arith}
 use lib.ListN.{length, drop, length-drop, drop-of-length-le}
-use Rattle.reader.specs.declared.numbers.NumberAt.{NumberAt}
-use Rattle.reader.specs.Read.{Parsed, bad, got, Reader, after, strip, readNumber}
-use Rattle.reader.specs.Places.{endOf, readOr, numberAt}
-use Rattle.reader.proofs.Gives.{Gives, nothing, gives}
-use Rattle.reader.proofs.Number.{number-sound}
-use Rattle.reader.proofs.Plain.{number-plain}
-use Rattle.reader.proofs.Positions.{End, Tail, missing, there, end-trans, end-drop, strip-tail, sound-tail}
+use Rattle.scan.specs.declared.numbers.NumberAt.{NumberAt}
+use Rattle.text.specs.Read.{Parsed, bad, got, Reader, after, strip, readNumber}
+use Rattle.text.specs.Places.{endOf, readOr}
+use Rattle.scan.specs.Numbers.{numberAt}
+use Rattle.text.proofs.Gives.{Gives, nothing, gives}
+use Rattle.text.proofs.Number.{number-sound}
+use Rattle.text.proofs.Plain.{number-plain}
+use Rattle.text.proofs.Positions.{End, Tail, missing, there, end-trans, end-drop, strip-tail, sound-tail}
 use Rattle.rules.specs.declared.compare.Ends.{Ends}
 use Rattle.rules.specs.Filled.{readIndex, indexed, matches, endsOf}
 

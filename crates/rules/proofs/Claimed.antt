@@ -11,16 +11,16 @@ use Rattle.logic.specs.Syntax.{Literal, lit, Clause}
 use Rattle.logic.specs.Each.{width}
 use Rattle.logic.specs.Fill.{Substitution, fillLiteral, fillClause}
 use Rattle.logic.proofs.Both.{left, right}
-use Rattle.reader.specs.Words.{bytes}
-use Rattle.reader.specs.Write.{word, putTerm, putLiteral, putLiterals}
-use Rattle.reader.specs.Form.{formedLiteral, formedClause}
-use Rattle.reader.specs.Read.{Parsed, bad, got, after, strip}
-use Rattle.reader.specs.Places.{endOf}
-use Rattle.reader.specs.Access.{skipItem, entryOf}
-use Rattle.reader.proofs.Positions.{strip-tail, then-end}
-use Rattle.reader.proofs.Plain.{in-front, literal-plain}
-use Rattle.reader.proofs.Nesting.{skip-literal}
-use Rattle.reader.proofs.Heads.{strip-same}
+use Rattle.text.specs.Words.{bytes}
+use Rattle.text.specs.Write.{word, putTerm, putLiteral, putLiterals}
+use Rattle.text.specs.Form.{formedLiteral, formedClause}
+use Rattle.text.specs.Read.{Parsed, bad, got, after, strip}
+use Rattle.text.specs.Places.{endOf}
+use Rattle.text.specs.Access.{skipItem, entryOf}
+use Rattle.text.proofs.Positions.{strip-tail, then-end}
+use Rattle.text.proofs.Plain.{in-front, literal-plain}
+use Rattle.text.proofs.Nesting.{skip-literal}
+use Rattle.text.proofs.Heads.{strip-same}
 use Rattle.rules.specs.declared.compare.Ends.{Ends}
 use Rattle.rules.specs.Filled.{fillItem, replacing, matches, endsOf}
 use Rattle.rules.specs.Shapes.{stripAt, skipAt}

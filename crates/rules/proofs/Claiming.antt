@@ -5,7 +5,7 @@ use mathlib.Core.List.{List}
 use mathlib.Core.Path.{_≡_, refl, sym, _∙_, ap}
 use native.Mathlib.Omega.{arith}
 use lib.Dec.{eqb}
-use Rattle.reader.specs.Words.{bytes}
+use Rattle.text.specs.Words.{bytes}
 use Rattle.rules.specs.declared.compare.Ends.{Ends}
 use Rattle.rules.specs.Shapes.{stripAt, skipAt}
 use Rattle.rules.specs.Claims.{keptAt, onceAt, othersFrom}

@@ -16,15 +16,15 @@ use Rattle.logic.specs.Equality.{clause?}
 use Rattle.logic.specs.Rules.{uses, Agreement, Holds}
 use Rattle.logic.specs.Judge.{Conclusion, misshapen, concludes, holds?, judgeConclusion}
 use Rattle.logic.proofs.Over.{Over}
-use Rattle.reader.specs.Words.{bytes}
-use Rattle.reader.specs.Write.{word, putLiteral, putLiterals, putClause}
-use Rattle.reader.specs.Form.{formedNumber}
-use Rattle.reader.specs.Read.{Parsed, bad, got, strip}
-use Rattle.reader.specs.Places.{endOf}
-use Rattle.reader.specs.LineAt.{fromClause}
-use Rattle.reader.proofs.Deep.{formedSymbol, clause-bytes}
-use Rattle.reader.proofs.Gives.{Gives, nothing, gives, given, strip-gives}
-use Rattle.reader.proofs.Heads.{strip-same}
+use Rattle.text.specs.Words.{bytes}
+use Rattle.text.specs.Write.{word, putLiteral, putLiterals, putClause}
+use Rattle.text.specs.Form.{formedNumber}
+use Rattle.text.specs.Read.{Parsed, bad, got, strip}
+use Rattle.text.specs.Places.{endOf}
+use Rattle.lines.specs.LineAt.{fromClause}
+use Rattle.text.proofs.Deep.{formedSymbol, clause-bytes}
+use Rattle.text.proofs.Gives.{Gives, nothing, gives, given, strip-gives}
+use Rattle.text.proofs.Heads.{strip-same}
 use Rattle.rules.specs.Shapes.{stripAt}
 use Rattle.rules.specs.Claims.{othersAt}
 use Rattle.rules.specs.Table.{rowAt}

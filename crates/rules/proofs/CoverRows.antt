@@ -16,11 +16,11 @@ use Rattle.logic.specs.Each.{width}
 use Rattle.logic.specs.Fill.{Substitution, fillAtom, fillLiteral}
 use Rattle.logic.specs.Rules.{Agreement, always, covering, Covers, Holds}
 use Rattle.logic.specs.Judge.{Conclusion, misshapen, concludes, onPlus, onMinus, onObj, conclude-res, conclude-fac, conclude-eli, tableRow}
-use Rattle.reader.specs.Words.{bytes}
-use Rattle.reader.specs.Write.{word, putLiterals}
-use Rattle.reader.specs.Form.{formedLiteral}
-use Rattle.reader.specs.Heads.{kindNumber, head}
-use Rattle.reader.proofs.Heads.{minus-of, minus-other}
+use Rattle.text.specs.Words.{bytes}
+use Rattle.text.specs.Write.{word, putLiterals}
+use Rattle.text.specs.Form.{formedLiteral}
+use Rattle.text.specs.Heads.{kindNumber, head}
+use Rattle.text.proofs.Heads.{minus-of, minus-other}
 use Rattle.rules.specs.Shapes.{stripAt, positiveAt}
 use Rattle.rules.specs.Rows.{within, answer}
 use Rattle.rules.specs.Covering.{negativeAt, coversAt, resAt, sameSignAt, atomAt, facAt, eliAt}

@@ -16,15 +16,15 @@ use Rattle.logic.specs.Equality.{arrow?, arrowAt, arrowNumber, arrow-back}
 use Rattle.logic.specs.Each.{termsWidth}
 use Rattle.logic.specs.Fill.{Substitution, fillResult, fillAtom}
 use Rattle.logic.specs.Rules.{bareResult, bare, Covers}
-use Rattle.reader.specs.Words.{bytes}
-use Rattle.reader.specs.Write.{word, putTerm, putResult, putAtom}
-use Rattle.reader.specs.Read.{bad, got, strip}
-use Rattle.reader.specs.Access.{skipItem}
-use Rattle.reader.specs.Form.{formedResult, formedAtom}
-use Rattle.reader.specs.Heads.{arrowKind, kindNumber, head}
-use Rattle.reader.proofs.Heads.{afterHead, strip-same}
-use Rattle.reader.proofs.Nesting.{skip-term}
-use Rattle.reader.proofs.Tests.{T-and, holds}
+use Rattle.text.specs.Words.{bytes}
+use Rattle.text.specs.Write.{word, putTerm, putResult, putAtom}
+use Rattle.text.specs.Read.{bad, got, strip}
+use Rattle.text.specs.Access.{skipItem}
+use Rattle.text.specs.Form.{formedResult, formedAtom}
+use Rattle.text.specs.Heads.{arrowKind, kindNumber, head}
+use Rattle.text.proofs.Heads.{afterHead, strip-same}
+use Rattle.text.proofs.Nesting.{skip-term}
+use Rattle.text.proofs.Tests.{T-and, holds}
 use Rattle.rules.specs.Shapes.{stripAt, skipAt, nextAt, resultAt}
 use Rattle.rules.specs.Rows.{within, agreeAt, callsAt}
 use Rattle.rules.specs.Covering.{headAt, bareAt, coversAt}

@@ -4,10 +4,10 @@ use mathlib.Core.Path.{_≡_, refl, sym, _∙_, ap, fun-ext}
 use mathlib.Core.List.{List, [], _∷_}
 use native.Mathlib.Omega.{arith}
 use lib.ListN.{length, drop, getD, length-drop, drop-of-length-le}
-use Rattle.reader.specs.Read.{Parsed, bad, got, Reader, after, strip}
-use Rattle.reader.specs.Places.{endOf}
-use Rattle.reader.specs.Access.{skipItem, entryOf}
-use Rattle.reader.proofs.Positions.{missing, there, strip-tail, skip-tail}
+use Rattle.text.specs.Read.{Parsed, bad, got, Reader, after, strip}
+use Rattle.text.specs.Places.{endOf}
+use Rattle.text.specs.Access.{skipItem, entryOf}
+use Rattle.text.proofs.Positions.{missing, there, strip-tail, skip-tail}
 use Rattle.rules.specs.declared.compare.Ends.{Ends}
 use Rattle.rules.specs.Filled.{Filler, instead, indexed, front, inside, fillItem, plain, replacing, matches, endsOf}
 use Rattle.rules.proofs.Walk.{fill-zero, fill-empty, fill-hole, fill-variable, fill-bracket, fill-other, fill-shrinks, byte-here, byte-none, byte-other, Landed, missed, landed, land, Going, going-from, never-front, matching}

@@ -13,14 +13,14 @@ use Rattle.logic.specs.Syntax.{Term, var as variable, app, Terms, nil, cons, Re
 use Rattle.logic.specs.Terms.{termsOf}
 use Rattle.logic.specs.Each.{termWidth, termsWidth}
 use Rattle.logic.specs.Fill.{Substitution, fill, fills, fillResult, fillAtom, fillLiteral}
-use Rattle.reader.specs.Words.{bytes}
-use Rattle.reader.specs.Write.{word, putNumber, putTerm, putAtom, putLiteral}
-use Rattle.reader.specs.Form.{formedNumber, formedTerm, formedAtom}
-use Rattle.reader.specs.Read.{Parsed, bad, got, Reader, after, oneOf, strip, readNumber, digit}
-use Rattle.reader.proofs.Number.{number-complete}
-use Rattle.reader.proofs.Plain.{number-plain, in-front, put-grows}
-use Rattle.reader.proofs.Trees.{Tree, var, node, Trees, end, byte, part, putTree, putInside, opens, Clean, CleanIn, Within, WithinIn, numberBytes, texts, Below, treeTerm, treeTerms, treeArguments, treeResult, treeAtom, treeLiteral, put-term, put-atom, put-literal, clean-term, clean-atom, clean-literal, within-term, within-atom, within-literal}
-use Rattle.reader.proofs.Nesting.{inner-tests}
+use Rattle.text.specs.Words.{bytes}
+use Rattle.text.specs.Write.{word, putNumber, putTerm, putAtom, putLiteral}
+use Rattle.text.specs.Form.{formedNumber, formedTerm, formedAtom}
+use Rattle.text.specs.Read.{Parsed, bad, got, Reader, after, oneOf, strip, readNumber, digit}
+use Rattle.text.proofs.Number.{number-complete}
+use Rattle.text.proofs.Plain.{number-plain, in-front, put-grows}
+use Rattle.text.proofs.Trees.{Tree, var, node, Trees, end, byte, part, putTree, putInside, opens, Clean, CleanIn, Within, WithinIn, numberBytes, texts, Below, treeTerm, treeTerms, treeArguments, treeResult, treeAtom, treeLiteral, put-term, put-atom, put-literal, clean-term, clean-atom, clean-literal, within-term, within-atom, within-literal}
+use Rattle.text.proofs.Nesting.{inner-tests}
 use Rattle.rules.specs.Filled.{Filler, front, insideUpTo, inside, readIndex, indexed, fillItem}
 
 unfoldable mutual

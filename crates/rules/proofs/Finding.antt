@@ -15,9 +15,9 @@ use Rattle.logic.specs.Syntax.{Term, var as variable, app, Terms, nil, cons, Re
 use Rattle.logic.specs.Terms.{count, join, termsOf, resultTerms, entryOr, nth, front, rest, withResult, withTerms}
 use Rattle.logic.specs.Fill.{Substitution, fill, fills, fillResult}
 use Rattle.logic.specs.Occurrence.{Search, past, found, mapSearch, inTurn, findTerm, findTerms, findAtom, findLiteral}
-use Rattle.reader.specs.Words.{bytes, signWord, linkWord, arrowWord}
-use Rattle.reader.specs.Write.{Writer}
-use Rattle.reader.proofs.Trees.{Tree, node, Trees, end, byte, part, putInside, texts, numberBytes, treeTerm, treeTerms, treeArguments, treeResult, treeAtom, treeLiteral}
+use Rattle.text.specs.Words.{bytes, signWord, linkWord, arrowWord}
+use Rattle.text.specs.Write.{Writer}
+use Rattle.text.proofs.Trees.{Tree, node, Trees, end, byte, part, putInside, texts, numberBytes, treeTerm, treeTerms, treeArguments, treeResult, treeAtom, treeLiteral}
 use Rattle.rules.proofs.Filling.{fillTree, fillTrees, trees, tree-term, tree-terms, tree-arguments, tree-result}
 use Rattle.rules.proofs.Holes.{Found, past as passed, found as spotted, mapFound, turn, applied, findTree, findTrees}
 

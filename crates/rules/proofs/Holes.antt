@@ -7,14 +7,14 @@ use native.Mathlib.Omega.{arith}
 use lib.Dec.{T, eqb}
 use lib.ListN.{length}
 use borrow.Author.Tests.{ne-eqb, eq-eqb, eqb-false}
-use Rattle.reader.specs.Write.{Writer, word, putNumber}
-use Rattle.reader.specs.Form.{formedNumber}
-use Rattle.reader.specs.Read.{Parsed, bad, got, Reader, after, strip}
-use Rattle.reader.specs.Access.{skipItem, stood, beginsTerm, seek, toOccurrence}
-use Rattle.reader.proofs.Tests.{onTest}
-use Rattle.reader.proofs.Plain.{number-plain, in-front}
-use Rattle.reader.proofs.Trees.{Tree, var, node, Trees, end, byte, part, putTree, putInside, Inner, inner, Clean, CleanIn, Within, WithinIn, within-more, within-in-more, numberBytes, number-inner}
-use Rattle.reader.proofs.Nesting.{inner-tests, skip-tree}
+use Rattle.text.specs.Write.{Writer, word, putNumber}
+use Rattle.text.specs.Form.{formedNumber}
+use Rattle.text.specs.Read.{Parsed, bad, got, Reader, after, strip}
+use Rattle.text.specs.Access.{skipItem, stood, beginsTerm, seek, toOccurrence}
+use Rattle.text.proofs.Tests.{onTest}
+use Rattle.text.proofs.Plain.{number-plain, in-front}
+use Rattle.text.proofs.Trees.{Tree, var, node, Trees, end, byte, part, putTree, putInside, Inner, inner, Clean, CleanIn, Within, WithinIn, within-more, within-in-more, numberBytes, number-inner}
+use Rattle.text.proofs.Nesting.{inner-tests, skip-tree}
 use Rattle.rules.specs.Filled.{Filler, front, insideUpTo, inside, instead, fillItem}
 use Rattle.rules.proofs.Filling.{fillTree, fillTrees, tree-front, tree-longer, inside-grows, inside-part, not-variable, Clear, after-it, before-it, narrow, fill-tree, fill-inside}
 use Rattle.rules.proofs.Walk.{fill-hole, fill-bracket, inside-on}

@@ -20,20 +20,20 @@ use Rattle.logic.specs.Rules.{uses, always, plus, Parent, filled}
 use Rattle.logic.specs.Judge.{parentClause, parentA, parentB, below, parentsBelow, unusedZero, firstLength, listsFit, numbersRight, withNew, conclude, conclusion, judgeConclusion, judge}
 use Rattle.logic.proofs.Both.{left, right}
 use Rattle.logic.proofs.Over.{Over, fill-over}
-use Rattle.reader.specs.declared.forms.LineAt.{LineAt}
+use Rattle.lines.specs.declared.forms.LineAt.{LineAt}
 use Rattle.reader.specs.declared.states.State as code
-use Rattle.reader.specs.Words.{bytes}
-use Rattle.reader.specs.Write.{word, putLet, putTerms}
-use Rattle.reader.specs.Form.{formedNumber, numbered, numbereds, formedTerms, formedStep, formedLine, formedClause, depthOfs}
-use Rattle.reader.specs.Read.{form, readLine}
-use Rattle.reader.specs.LineAt.{fromFirst, fromSecond, fromClause, placeOf, lineOf}
-use Rattle.reader.specs.Figures.{office}
+use Rattle.text.specs.Words.{bytes}
+use Rattle.text.specs.Write.{word, putLet, putTerms}
+use Rattle.text.specs.Form.{formedNumber, numbered, numbereds, formedTerms, formedStep, formedLine, formedClause, depthOfs}
+use Rattle.text.specs.Read.{form, readLine}
+use Rattle.lines.specs.LineAt.{fromFirst, fromSecond, fromClause, placeOf, lineOf}
+use Rattle.text.specs.Figures.{office}
 use Rattle.reader.specs.State.{State, clauses, listFits, withinLimits, ordered, constantReady, lineFailure}
 use Rattle.reader.specs.Represents.{Stands, Represents, readFailure}
-use Rattle.reader.proofs.Deep.{formedSymbol, each-numbered, entries-over, formed-over}
-use Rattle.reader.proofs.Heads.{strip-same}
-use Rattle.reader.proofs.LineParts.{first-place, second-place, claim-place}
-use Rattle.reader.proofs.Sound.{line-sound}
+use Rattle.text.proofs.Deep.{formedSymbol, each-numbered, entries-over, formed-over}
+use Rattle.text.proofs.Heads.{strip-same}
+use Rattle.lines.proofs.LineParts.{first-place, second-place, claim-place}
+use Rattle.text.proofs.Sound.{line-sound}
 use Rattle.reader.proofs.StateCode.{zero-or}
 use Rattle.rules.specs.Uses.{parentNumbers, unusedNumbers}
 use Rattle.rules.specs.Claims.{othersAt}

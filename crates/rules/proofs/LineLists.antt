@@ -9,11 +9,11 @@ use Rattle.logic.specs.Syntax.{Term, var, Terms}
 use Rattle.logic.specs.Terms.{count}
 use Rattle.logic.specs.Each.{termWidth}
 use Rattle.logic.specs.Fill.{Substitution, fill, entries}
-use Rattle.reader.specs.Write.{word, putTerm, putTerms}
-use Rattle.reader.specs.Form.{formedTerm}
-use Rattle.reader.specs.Read.{got}
-use Rattle.reader.specs.Access.{places, entryOf}
-use Rattle.reader.proofs.Nesting.{let-entry}
+use Rattle.text.specs.Write.{word, putTerm, putTerms}
+use Rattle.text.specs.Form.{formedTerm}
+use Rattle.text.specs.Read.{got}
+use Rattle.text.specs.Access.{places, entryOf}
+use Rattle.text.proofs.Nesting.{let-entry}
 use Rattle.rules.specs.Filled.{fillItem, plain, replacing}
 use Rattle.rules.proofs.Filling.{Clear, after-it, fill-term}
 use Rattle.rules.proofs.Holes.{stack}

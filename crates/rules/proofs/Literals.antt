@@ -13,15 +13,15 @@ use Rattle.logic.specs.Each.{width}
 use Rattle.logic.specs.Fill.{Substitution, fillLiteral, fillClause}
 use Rattle.logic.specs.Judge.{Conclusion, misshapen, onAt}
 use Rattle.logic.proofs.Both.{left, right}
-use Rattle.reader.specs.Words.{bytes}
-use Rattle.reader.specs.Write.{word, putLiteral, putLiterals, putClause}
-use Rattle.reader.specs.Form.{formedLiteral, formedClause}
-use Rattle.reader.specs.Read.{Parsed, bad, got, after, strip}
-use Rattle.reader.specs.Access.{toItem, passItem, skipItem, howMany}
-use Rattle.reader.proofs.Heads.{strip-same}
-use Rattle.reader.proofs.Nesting.{putEach, fromItem, clause-item, skip-literal, how-many}
-use Rattle.reader.proofs.Positions.{item-tail}
-use Rattle.reader.specs.Places.{endOf}
+use Rattle.text.specs.Words.{bytes}
+use Rattle.text.specs.Write.{word, putLiteral, putLiterals, putClause}
+use Rattle.text.specs.Form.{formedLiteral, formedClause}
+use Rattle.text.specs.Read.{Parsed, bad, got, after, strip}
+use Rattle.text.specs.Access.{toItem, passItem, skipItem}
+use Rattle.text.proofs.Heads.{strip-same}
+use Rattle.text.proofs.Nesting.{putEach, fromItem, clause-item, skip-literal, howMany, how-many}
+use Rattle.text.proofs.Positions.{item-tail}
+use Rattle.text.specs.Places.{endOf}
 use Rattle.rules.specs.Shapes.{stripAt}
 use Rattle.rules.specs.Claims.{othersFrom, othersAt}
 use Rattle.rules.specs.Conclusions.{placeAt}

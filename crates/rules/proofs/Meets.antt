@@ -9,8 +9,8 @@ use Rattle.logic.specs.Each.{width}
 use Rattle.logic.specs.Fill.{Substitution}
 use Rattle.logic.specs.Rules.{Agreement}
 use Rattle.logic.specs.Judge.{Conclusion, concludes}
-use Rattle.reader.specs.Write.{putLiteral, putLiterals}
-use Rattle.reader.specs.Form.{numbered, formedLiteral}
+use Rattle.text.specs.Write.{putLiteral, putLiterals}
+use Rattle.text.specs.Form.{numbered, formedLiteral}
 use Rattle.rules.specs.Shapes.{stripAt}
 use Rattle.rules.specs.Table.{rowAt}
 use Rattle.rules.specs.Conclusions.{newAt}

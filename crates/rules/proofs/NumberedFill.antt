@@ -14,11 +14,11 @@ use Rattle.logic.specs.Fill.{Substitution, fill, fills, fillAtom, fillLiteral, 
 use Rattle.logic.proofs.Both.{left, right, both}
 use Rattle.logic.proofs.Ground.{each-fill, eachs-fill}
 use Rattle.logic.proofs.Over.{Over, fill-over}
-use Rattle.reader.specs.Write.{putAtom}
-use Rattle.reader.specs.Form.{formedNumber, numbered, numbereds, formedTerm, formedTerms, formedResult, formedAtom, formedLiteral, formedClause}
-use Rattle.reader.proofs.Tests.{T-and}
-use Rattle.reader.proofs.Unique.{atom-unique}
-use Rattle.reader.proofs.Deep.{formedSymbol, each-numbered, eachs-numbered, numbered-each, numbereds-each, atomDepth, atom-formed, formed-over}
+use Rattle.text.specs.Write.{putAtom}
+use Rattle.text.specs.Form.{formedNumber, numbered, numbereds, formedTerm, formedTerms, formedResult, formedAtom, formedLiteral, formedClause}
+use Rattle.text.proofs.Tests.{T-and}
+use Rattle.text.proofs.Unique.{atom-unique}
+use Rattle.text.proofs.Deep.{formedSymbol, each-numbered, eachs-numbered, numbered-each, numbereds-each, atomDepth, atom-formed, formed-over}
 
 module _ (σ : Substitution) (w : ℕ) (numbers : (v : ℕ) → v < w → T (numbered (σ v))) where
   -- A variable's number: a number N below w.

@@ -11,13 +11,13 @@ use Rattle.logic.specs.Terms.{join, resultTerms, termsOf}
 use Rattle.logic.specs.Each.{termWidth, termsWidth}
 use Rattle.logic.specs.Fill.{Substitution, fill}
 use Rattle.logic.specs.Occurrence.{Search, past, found, findLiteral}
-use Rattle.reader.specs.Words.{bytes, signWord}
-use Rattle.reader.specs.Write.{putTerm, putLiteral}
-use Rattle.reader.specs.Form.{depthOf, depthOfs, numbered, numbereds, formedTerm, formedTerms, formedResult, formedAtom}
-use Rattle.reader.specs.Read.{Parsed, bad, got, strip}
-use Rattle.reader.specs.Access.{seek, toOccurrence}
-use Rattle.reader.proofs.Tests.{T-and}
-use Rattle.reader.proofs.Trees.{join-width, Tree, node, Trees, end, byte, part, putTree, texts, Clean, Below, treeTerm, treeAtom, treeLiteral, put-term, put-literal, clean-literal, within-literal}
+use Rattle.text.specs.Words.{bytes, signWord}
+use Rattle.text.specs.Write.{putTerm, putLiteral}
+use Rattle.text.specs.Form.{depthOf, depthOfs, numbered, numbereds, formedTerm, formedTerms, formedResult, formedAtom}
+use Rattle.text.specs.Read.{Parsed, bad, got, strip}
+use Rattle.text.specs.Access.{seek, toOccurrence}
+use Rattle.text.proofs.Tests.{T-and}
+use Rattle.text.proofs.Trees.{join-width, Tree, node, Trees, end, byte, part, putTree, texts, Clean, Below, treeTerm, treeAtom, treeLiteral, put-term, put-literal, clean-literal, within-literal}
 use Rattle.rules.specs.Filled.{Filler, fillItem}
 use Rattle.rules.proofs.Filling.{trees}
 use Rattle.rules.proofs.Holes.{Found, past as passed, found as spotted, mapFound, findTrees, onFound, seek-inside, Good, hole-tree, stack}

@@ -16,14 +16,14 @@ use Rattle.logic.specs.Fill.{Substitution, fill, fillLiteral}
 use Rattle.logic.specs.Occurrence.{Search}
 use Rattle.logic.specs.Rules.{equal, one}
 use Rattle.logic.specs.Judge.{concludes, onFound, conclude-par}
-use Rattle.reader.specs.Words.{bytes}
-use Rattle.reader.specs.Form.{formedLiteral}
-use Rattle.reader.specs.Read.{strip}
-use Rattle.reader.specs.Places.{endOf}
-use Rattle.reader.specs.Access.{beginsTerm, seek, toOccurrence}
-use Rattle.reader.proofs.Gives.{Gives, nothing, gives, weaken}
-use Rattle.reader.proofs.Positions.{Tail, End, end-refl, end-cons, strip-tail, and-tail}
-use Rattle.reader.proofs.Tests.{onTest}
+use Rattle.text.specs.Words.{bytes}
+use Rattle.text.specs.Form.{formedLiteral}
+use Rattle.text.specs.Read.{strip}
+use Rattle.text.specs.Places.{endOf}
+use Rattle.text.specs.Access.{beginsTerm, seek, toOccurrence}
+use Rattle.text.proofs.Gives.{Gives, nothing, gives, weaken}
+use Rattle.text.proofs.Positions.{Tail, End, end-refl, end-cons, strip-tail, and-tail}
+use Rattle.text.proofs.Tests.{onTest}
 use Rattle.rules.specs.Filled.{replacing}
 use Rattle.rules.specs.Shapes.{nextAt, firstAt}
 use Rattle.rules.specs.Table.{parAt, rowAt}

@@ -12,11 +12,11 @@ use Rattle.logic.specs.Terms.{termsOf}
 use Rattle.logic.specs.Each.{termsWidth}
 use Rattle.logic.specs.Fill.{Substitution, fill, fills, fillResult}
 use Rattle.logic.specs.Rules.{Placed}
-use Rattle.reader.specs.Words.{bytes, signWord, linkWord, arrowWord}
-use Rattle.reader.specs.Write.{Writer, word, putTerm, putTerms, putArguments, putResult, putLiteral}
-use Rattle.reader.specs.Form.{formedAtom}
-use Rattle.reader.specs.Read.{got}
-use Rattle.reader.proofs.Trees.{Tree, node, Trees, end, byte, part, putTree, putInside, texts, Clean, Within, Below, treeTerm, treeTerms, treeArguments, treeResult, treeAtom, treeLiteral, put-term, put-terms, put-arguments, put-result, put-literal, clean-literal, within-literal}
+use Rattle.text.specs.Words.{bytes, signWord, linkWord, arrowWord}
+use Rattle.text.specs.Write.{Writer, word, putTerm, putTerms, putArguments, putResult, putLiteral}
+use Rattle.text.specs.Form.{formedAtom}
+use Rattle.text.specs.Read.{got}
+use Rattle.text.proofs.Trees.{Tree, node, Trees, end, byte, part, putTree, putInside, texts, Clean, Within, Below, treeTerm, treeTerms, treeArguments, treeResult, treeAtom, treeLiteral, put-term, put-terms, put-arguments, put-result, put-literal, clean-literal, within-literal}
 use Rattle.rules.specs.Filled.{Filler, fillItem}
 use Rattle.rules.proofs.Filling.{fillTrees, trees, tree-term, tree-terms, tree-arguments, tree-result}
 use Rattle.rules.proofs.Holes.{found, mapFound, turn, Good, stack}

@@ -11,15 +11,15 @@ use lib.Dec.{T, leb}
 use lib.ListN.{length, drop, drop-of-length-le}
 use Rattle.logic.specs.declared.Sign.the-variants.{Positive, Negative}
 use Rattle.logic.specs.Syntax.{Term, var, app, Terms, Result, value, none, Atom, link, obj, method, Literal, lit}
-use Rattle.reader.specs.Words.{bytes}
-use Rattle.reader.specs.Write.{word, putTerm, putArguments, putResult, putAtom, putLiteral}
-use Rattle.reader.specs.Read.{Parsed, bad, got, Reader, strip}
-use Rattle.reader.specs.Places.{endOf}
-use Rattle.reader.specs.Access.{skipItem, toArgument}
-use Rattle.reader.specs.Heads.{kindNumber, head}
-use Rattle.reader.proofs.Positions.{Tail, strip-tail, skip-tail, landed}
-use Rattle.reader.proofs.Nesting.{skip-term, skip-arguments}
-use Rattle.reader.proofs.Heads.{afterHead, head-of, head-other, plus-of, plus-other}
+use Rattle.text.specs.Words.{bytes}
+use Rattle.text.specs.Write.{word, putTerm, putArguments, putResult, putAtom, putLiteral}
+use Rattle.text.specs.Read.{Parsed, bad, got, Reader, strip}
+use Rattle.text.specs.Places.{endOf}
+use Rattle.text.specs.Access.{skipItem, toArgument}
+use Rattle.text.specs.Heads.{kindNumber, head}
+use Rattle.text.proofs.Positions.{Tail, strip-tail, skip-tail, landed}
+use Rattle.text.proofs.Nesting.{skip-term, skip-arguments}
+use Rattle.text.proofs.Heads.{afterHead, head-of, head-other, plus-of, plus-other}
 use Rattle.rules.specs.Shapes.{stripAt, skipAt, nextAt, positiveAt, firstAt, orElse, ifPlace, resultAt, objectAt}
 
 -- Within p, and from there on these bytes.

@@ -19,11 +19,11 @@ use Rattle.logic.specs.Fill.{Substitution, fill, fillResult, fillAtom, fillLite
 use Rattle.logic.specs.Occurrence.{mapSearch, inTurn, findTerm, findAtom, findLiteral}
 use Rattle.logic.specs.Rules.{signature, plus, minus}
 use Rattle.logic.specs.Judge.{Conclusion, misshapen, concludes, onPlus, onLink, onSub, onResult, onMethod, onSignature, onPlaced, onFound, tableRow, conclude-link, conclude-inh, conclude-inp, conclude-out, conclude-par, holds?}
-use Rattle.reader.specs.Words.{bytes}
-use Rattle.reader.specs.Access.{places, closing, skipItem, passItem, toItem, opening, toArgument, entryOf, stood, beginsTerm, seek, toOccurrence}
-use Rattle.reader.specs.Places.{endOf}
-use Rattle.reader.specs.Read.{strip, oneOf, readNumber, readDigits, digit, goesOn}
-use Rattle.reader.specs.Write.{putDigits, putNumber, putTerm, putArguments, putResult, putAtom, putLiteral, putLiterals}
+use Rattle.text.specs.Words.{bytes}
+use Rattle.text.specs.Access.{places, closing, skipItem, passItem, toItem, opening, toArgument, entryOf, stood, beginsTerm, seek, toOccurrence}
+use Rattle.text.specs.Places.{endOf}
+use Rattle.text.specs.Read.{strip, oneOf, readNumber, readDigits, digit, goesOn}
+use Rattle.text.specs.Write.{putDigits, putNumber, putTerm, putArguments, putResult, putAtom, putLiteral, putLiterals}
 use Rattle.rules.specs.Filled.{front as before, insideUpTo, inside, readIndex, indexed, instead, fillItem, plain, replacing, matches, endsOf, along, whole, both, turned, sameItem}
 use Rattle.rules.specs.Shapes.{stripAt, skipAt, nextAt, argumentAt, positiveAt, firstAt, orElse as other, ifPlace, resultAt, objectAt, targetAt}
 use Rattle.rules.specs.Claims.{rewrittenAt}

@@ -16,9 +16,9 @@ use Rattle.logic.specs.Fill.{Substitution, fill, fillLiteral}
 use Rattle.logic.specs.Rules.{Agreement, equal, Holds, one}
 use Rattle.logic.specs.Judge.{Conclusion, misshapen, concludes, tableRow}
 use Rattle.logic.proofs.Rewriting.{Aim, aim, agreeing, replacing as other-side, rewrite, tra-rewrites, inc-rewrites, inh-rewrites, inp-rewrites, out-rewrites}
-use Rattle.reader.specs.Words.{bytes}
-use Rattle.reader.specs.Write.{putTerm, putLiteral, putLiterals}
-use Rattle.reader.specs.Read.{got}
+use Rattle.text.specs.Words.{bytes}
+use Rattle.text.specs.Write.{putTerm, putLiteral, putLiterals}
+use Rattle.text.specs.Read.{got}
 use Rattle.rules.specs.Filled.{Filler, fillItem, replacing, matches, endsOf}
 use Rattle.rules.specs.Shapes.{stripAt, nextAt, firstAt, targetAt}
 use Rattle.rules.specs.Claims.{rewrittenAt}

@@ -15,11 +15,11 @@ use Rattle.logic.specs.Terms.{entryOr}
 use Rattle.logic.specs.Rules.{one, bareResult, bare, scalar, plus, minus}
 use Rattle.logic.specs.Equality.{linkNumber, arrowNumber, numbered, link?, arrow?, terms?, atom?}
 use Rattle.logic.specs.Judge.{tableRow, onPlus, onMinus, onLink, onSub, onObj, onResult, onMethod, onScalar, conclude-res, conclude-acy, conclude-sca, conclude-fac, conclude-eli, covers?, holds?}
-use Rattle.reader.specs.Words.{bytes}
-use Rattle.reader.specs.Write.{putDigits, putNumber, putTerm, putArguments, putResult, putAtom, putLiteral, putLiterals, putClause}
-use Rattle.reader.specs.Read.{strip, oneOf, digit, goesOn, readDigits, readNumber}
-use Rattle.reader.specs.Places.{endOf}
-use Rattle.reader.specs.Access.{closing, skipItem, passItem, places, entryOf}
+use Rattle.text.specs.Words.{bytes}
+use Rattle.text.specs.Write.{putDigits, putNumber, putTerm, putArguments, putResult, putAtom, putLiteral, putLiterals, putClause}
+use Rattle.text.specs.Read.{strip, oneOf, digit, goesOn, readDigits, readNumber}
+use Rattle.text.specs.Places.{endOf}
+use Rattle.text.specs.Access.{closing, skipItem, passItem, places, entryOf}
 use Rattle.rules.specs.Filled.{front, insideUpTo, inside, readIndex, indexed, fillItem, plain, matches, endsOf, along, whole, both, turned, sameItem}
 use Rattle.rules.specs.Shapes.{stripAt, skipAt, nextAt, positiveAt, firstAt, orElse, ifPlace, resultAt, objectAt}
 use Rattle.rules.specs.Rows.{within, answer, agreeAt, acyAt, callsAt, sameArrowAt, scaAt}

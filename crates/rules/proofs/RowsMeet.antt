@@ -21,12 +21,12 @@ use Rattle.logic.specs.Each.{termWidth, width}
 use Rattle.logic.specs.Fill.{Substitution, fill, fills, fillResult, fillAtom, fillLiteral}
 use Rattle.logic.specs.Rules.{always, equal, alike, Holds, scalar, one, plus}
 use Rattle.logic.specs.Judge.{Conclusion, misshapen, withNew, onPlus, onLink, onSub, onResult, onMethod, onScalar, conclude-acy, conclude-sca, tableRow, holds?}
-use Rattle.reader.specs.Words.{bytes}
-use Rattle.reader.specs.Write.{word, putDigits, putNumber, putTerm, putAtom}
-use Rattle.reader.specs.Form.{depthOf, numbered, formedTerm, formedAtom, formedLiteral}
-use Rattle.reader.specs.Heads.{linkKind, arrowKind, kindNumber, head}
-use Rattle.reader.proofs.Heads.{afterHead}
-use Rattle.reader.proofs.Tests.{T-and}
+use Rattle.text.specs.Words.{bytes}
+use Rattle.text.specs.Write.{word, putDigits, putNumber, putTerm, putAtom}
+use Rattle.text.specs.Form.{depthOf, numbered, formedTerm, formedAtom, formedLiteral}
+use Rattle.text.specs.Heads.{linkKind, arrowKind, kindNumber, head}
+use Rattle.text.proofs.Heads.{afterHead}
+use Rattle.text.proofs.Tests.{T-and}
 use Rattle.rules.specs.Shapes.{stripAt, nextAt, positiveAt, firstAt, ifPlace, resultAt, objectAt}
 use Rattle.rules.specs.Rows.{within, answer, acyAt, equalTests, sameArrowAt, scaAt}
 use Rattle.rules.specs.Table.{rowAt}

@@ -18,9 +18,9 @@ use Rattle.logic.specs.Fill.{Substitution, fillAtom, fillLiteral, fillClause}
 use Rattle.logic.specs.Rules.{uses, Agreement, always, covering, plus, Parent, filled}
 use Rattle.logic.specs.Judge.{Conclusion, misshapen, concludes, withNew, onAt, onPlus, onMinus, onObj, before, tableRow, two, conclude-par, conclude-fac, conclude-eli, conclude, judgeConclusion}
 use Rattle.logic.proofs.Over.{Over}
-use Rattle.reader.specs.Write.{putLiterals}
-use Rattle.reader.specs.Form.{formedNumber}
-use Rattle.reader.proofs.Deep.{formedSymbol}
+use Rattle.text.specs.Write.{putLiterals}
+use Rattle.text.specs.Form.{formedNumber}
+use Rattle.text.proofs.Deep.{formedSymbol}
 use Rattle.rules.specs.Shapes.{positiveAt}
 use Rattle.rules.specs.Claims.{othersFrom, othersAt}
 use Rattle.rules.specs.Rows.{within}

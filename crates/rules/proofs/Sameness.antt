@@ -5,12 +5,12 @@ use mathlib.Core.List.{List, [], _∷_}
 use native.Mathlib.Omega.{arith}
 use lib.Dec.{eqb}
 use lib.ListN.{length, drop, getD, length-drop, drop-of-length-le}
-use Rattle.reader.specs.Read.{Parsed, bad, got, Reader, after, orElse, strip}
-use Rattle.reader.specs.Places.{endOf}
-use Rattle.reader.specs.Access.{entryOf}
-use Rattle.reader.proofs.Tests.{onTest}
-use Rattle.reader.proofs.Gives.{Gives, nothing, gives, weaken, bind}
-use Rattle.reader.proofs.Positions.{missing, there, End, Tail, end-refl, end-trans, end-cons, strip-tail}
+use Rattle.text.specs.Read.{Parsed, bad, got, Reader, after, orElse, strip}
+use Rattle.text.specs.Places.{endOf}
+use Rattle.text.specs.Access.{entryOf}
+use Rattle.text.proofs.Tests.{onTest}
+use Rattle.text.proofs.Gives.{Gives, nothing, gives, weaken, bind}
+use Rattle.text.proofs.Positions.{missing, there, End, Tail, end-refl, end-trans, end-cons, strip-tail}
 use Rattle.rules.specs.declared.compare.Ends.{Ends}
 use Rattle.rules.specs.Filled.{Filler, indexed, fillItem, plain, matches, endsOf, along, whole, both, turned, sameItem}
 use Rattle.rules.proofs.Walk.{Less, Shrinks, less-cons, less-end, index-tail, fill-shrinks, byte-here, Pair, Both, Shortens, matching, Landed, missed, landed, Going}

@@ -5,11 +5,11 @@ use mathlib.Core.List.{List, [], _∷_, _++_}
 use lib.Dec.{T}
 use lib.ListN.{length}
 use Rattle.logic.specs.declared.Sign.{Sign}
-use Rattle.reader.specs.Words.{bytes, signWord}
-use Rattle.reader.specs.Write.{Writer}
-use Rattle.reader.specs.Form.{formedNumber}
-use Rattle.reader.specs.Read.{Parsed, bad, got}
-use Rattle.reader.proofs.Trees.{Tree, var, node, Trees, end, byte, part, putTree, putInside, texts, put-texts, Clean, CleanIn, Within, WithinIn}
+use Rattle.text.specs.Words.{bytes, signWord}
+use Rattle.text.specs.Write.{Writer}
+use Rattle.text.specs.Form.{formedNumber}
+use Rattle.text.specs.Read.{Parsed, bad, got}
+use Rattle.text.proofs.Trees.{Tree, var, node, Trees, end, byte, part, putTree, putInside, texts, put-texts, Clean, CleanIn, Within, WithinIn}
 use Rattle.rules.specs.Filled.{Filler, fillItem}
 use Rattle.rules.proofs.Filling.{fillTree, fillTrees}
 use Rattle.rules.proofs.Holes.{Found, past, found, mapFound, turn, findTrees, Held, HeldIn, Good, GoodIn, hole-inside, whole-held, node-held, byte-held, later-held, part-held, stack, within-stack, within-in-stack}

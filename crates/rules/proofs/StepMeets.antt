@@ -19,8 +19,8 @@ use Rattle.logic.specs.Rules.{uses, Agreement, Parent, filled}
 use Rattle.logic.specs.Judge.{Conclusion, misshapen, concludes, onAt, onPlus, onMinus, onObj, before, tableRow, two, conclude-par, conclude-fac, conclude-eli, conclude, judgeConclusion}
 use Rattle.logic.proofs.Over.{Over, infers-over}
 use Rattle.logic.proofs.Table.{concludes→infers}
-use Rattle.reader.specs.Form.{formedNumber}
-use Rattle.reader.proofs.Deep.{formedSymbol}
+use Rattle.text.specs.Form.{formedNumber}
+use Rattle.text.proofs.Deep.{formedSymbol}
 use Rattle.rules.specs.Claims.{othersAt}
 use Rattle.rules.specs.Table.{rowAt}
 use Rattle.rules.specs.Conclusions.{newAt, placeAt, secondAt, droppedAt, claimAt}

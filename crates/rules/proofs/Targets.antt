@@ -22,19 +22,19 @@ use Rattle.logic.specs.Fill.{Substitution, fill, fills, fillResult}
 use Rattle.logic.specs.Rules.{signature, plus}
 use Rattle.logic.proofs.Rewriting.{Argument, Target, Aim, misses, hits, linkAim, resultAim, methodAim, objectAim, outputAim, inputAim, argumentAim, positiveAim, aim}
 use Rattle.logic.proofs.Both.{right}
-use Rattle.reader.specs.Words.{bytes}
-use Rattle.reader.specs.Write.{word, putTerm, putTerms, putArguments, putResult, putAtom, putLiteral}
-use Rattle.reader.specs.Form.{depthOfs, numbereds, formedTerm, formedTerms, formedResult, formedAtom, formedLiteral}
-use Rattle.reader.specs.Read.{Parsed, bad, got, strip}
-use Rattle.reader.specs.Places.{endOf}
-use Rattle.reader.specs.Access.{opening, toArgument}
-use Rattle.reader.proofs.Nesting.{fromItem, listed, terms-each, argument-item}
-use Rattle.reader.proofs.Trees.{join-width}
-use Rattle.reader.proofs.Tests.{T-and, onTest}
-use Rattle.reader.proofs.Gives.{Gives, nothing, gives}
-use Rattle.reader.proofs.Positions.{Tail, End, end-refl, strip-tail, skip-tail, item-tail, and-tail}
-use Rattle.reader.specs.Heads.{linkKind, arrowKind, kindNumber, head}
-use Rattle.reader.proofs.Heads.{afterHead}
+use Rattle.text.specs.Words.{bytes}
+use Rattle.text.specs.Write.{word, putTerm, putTerms, putArguments, putResult, putAtom, putLiteral}
+use Rattle.text.specs.Form.{depthOfs, numbereds, formedTerm, formedTerms, formedResult, formedAtom, formedLiteral}
+use Rattle.text.specs.Read.{Parsed, bad, got, strip}
+use Rattle.text.specs.Places.{endOf}
+use Rattle.text.specs.Access.{opening, toArgument}
+use Rattle.text.proofs.Nesting.{fromItem, listed, terms-each, argument-item}
+use Rattle.text.proofs.Trees.{join-width}
+use Rattle.text.proofs.Tests.{T-and, onTest}
+use Rattle.text.proofs.Gives.{Gives, nothing, gives}
+use Rattle.text.proofs.Positions.{Tail, End, end-refl, strip-tail, skip-tail, item-tail, and-tail}
+use Rattle.text.specs.Heads.{linkKind, arrowKind, kindNumber, head}
+use Rattle.text.proofs.Heads.{afterHead}
 use Rattle.rules.specs.Shapes.{stripAt, nextAt, positiveAt, firstAt, orElse, ifPlace, resultAt, objectAt, argumentAt, targetAt}
 use Rattle.rules.specs.Filled.{Filler, fillItem}
 use Rattle.rules.proofs.Holes.{stack}

@@ -17,12 +17,12 @@ use Rattle.logic.specs.Each.{termWidth, termsWidth}
 use Rattle.logic.specs.Fill.{Substitution, fill, fills}
 use Rattle.logic.specs.Rules.{Agreement, plus}
 use Rattle.logic.specs.Judge.{Conclusion, misshapen, concludes}
-use Rattle.reader.specs.Words.{linkWord}
-use Rattle.reader.specs.Write.{word, putTerm, putArguments, putResult, putAtom, putLiteral, putLiterals}
-use Rattle.reader.specs.Form.{numbered, numbereds, formedTerm, formedTerms, formedResult, formedAtom}
-use Rattle.reader.proofs.Plain.{in-front, term-plain}
-use Rattle.reader.proofs.Tests.{T-and}
-use Rattle.reader.proofs.Trees.{join-width}
+use Rattle.text.specs.Words.{linkWord}
+use Rattle.text.specs.Write.{word, putTerm, putArguments, putResult, putAtom, putLiteral, putLiterals}
+use Rattle.text.specs.Form.{numbered, numbereds, formedTerm, formedTerms, formedResult, formedAtom}
+use Rattle.text.proofs.Plain.{in-front, term-plain}
+use Rattle.text.proofs.Tests.{T-and}
+use Rattle.text.proofs.Trees.{join-width}
 use Rattle.rules.specs.Filled.{fillItem, replacing, matches, endsOf}
 use Rattle.rules.specs.Shapes.{stripAt, nextAt, resultAt}
 use Rattle.rules.specs.Claims.{filledAt, linkedAt}

@@ -8,14 +8,14 @@ use native.Mathlib.Omega.{arith}
 use lib.Dec.{T, eqb}
 use lib.ListN.{length, drop, getD, length-drop, drop-of-length-le}
 use borrow.Author.Tests.{eq-eqb, ne-eqb}
-use Rattle.reader.specs.Read.{Parsed, bad, got, Reader, after, _>>=_, _>>_, oneOf, strip, readNumber}
-use Rattle.reader.specs.Access.{skipItem}
-use Rattle.reader.proofs.Tests.{onTest}
-use Rattle.reader.proofs.Gives.{Gives, nothing, gives, given, weaken, bind, strip-gives, none, branch, oneOf-meets}
-use Rattle.reader.proofs.Number.{number-sound}
-use Rattle.reader.proofs.Plain.{number-plain}
-use Rattle.reader.proofs.Places.{at-byte}
-use Rattle.reader.proofs.Positions.{End, Tail, end-refl, end-trans, end-cons, end-drop, strip-tail, sound-tail, and-tail, skip-tail, closing-tail}
+use Rattle.text.specs.Read.{Parsed, bad, got, Reader, after, _>>=_, _>>_, oneOf, strip, readNumber}
+use Rattle.text.specs.Access.{skipItem}
+use Rattle.text.proofs.Tests.{onTest}
+use Rattle.text.proofs.Gives.{Gives, nothing, gives, given, weaken, bind, strip-gives, none, branch, oneOf-meets}
+use Rattle.text.proofs.Number.{number-sound}
+use Rattle.text.proofs.Plain.{number-plain}
+use Rattle.text.proofs.Places.{at-byte}
+use Rattle.text.proofs.Positions.{End, Tail, end-refl, end-trans, end-cons, end-drop, strip-tail, sound-tail, and-tail, skip-tail, closing-tail}
 use Rattle.rules.specs.declared.compare.Ends.{Ends}
 use Rattle.rules.specs.Filled.{Filler, front, insideUpTo, inside, readIndex, indexed, instead, fillItem, matches, endsOf, along}
 

@@ -4,7 +4,7 @@ use mathlib.Core.Bool.{Bool, true, false}
 use mathlib.Core.List.{List, []}
 use lib.Dec.{eqb}
 use lib.ListN.{length, drop}
-use Rattle.reader.specs.Words.{bytes}
+use Rattle.text.specs.Words.{bytes}
 use Rattle.rules.specs.declared.compare.Ends.{Ends}
 use Rattle.rules.specs.Filled.{fillItem, replacing, matches, endsOf}
 use Rattle.rules.specs.Shapes.{stripAt, skipAt}

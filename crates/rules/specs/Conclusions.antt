@@ -6,9 +6,9 @@ use lib.ListN.{drop}
 use Rattle.logic.specs.declared.Rule.{Rule}
 use Rattle.logic.specs.declared.Rule.the-variants.{Refl, Res, Fac, Par, Acy, Tra, Inc, Inh, Inp, Out, Sca, Eli}
 use Rattle.logic.specs.Rules.{uses}
-use Rattle.reader.specs.Words.{bytes}
-use Rattle.reader.specs.Places.{endOf}
-use Rattle.reader.specs.Access.{toItem, toOccurrence}
+use Rattle.text.specs.Words.{bytes}
+use Rattle.text.specs.Places.{endOf}
+use Rattle.text.specs.Access.{toItem, toOccurrence}
 use Rattle.rules.specs.Shapes.{stripAt, nextAt, positiveAt, firstAt, resultAt, objectAt, targetAt}
 use Rattle.rules.specs.Rows.{within}
 use Rattle.rules.specs.Claims.{rewrittenAt, linkedAt, othersAt}

@@ -5,7 +5,7 @@ use mathlib.Core.List.{List}
 use lib.Dec.{eqb}
 use lib.ListN.{take, drop}
 use Rattle.logic.specs.declared.Judged.{Judged}
-use Rattle.reader.specs.Words.{bytes}
+use Rattle.text.specs.Words.{bytes}
 use Rattle.rules.specs.Shapes.{stripAt, positiveAt, resultAt, orElse}
 use Rattle.rules.specs.Rows.{within, answer, agreeAt, callsAt}
 

@@ -4,8 +4,8 @@ use mathlib.Core.Bool.{Bool, true, false, cond}
 use mathlib.Core.List.{List, [], _∷_, _++_}
 use lib.Dec.{eqb}
 use lib.ListN.{length, drop}
-use Rattle.reader.specs.Read.{Parsed, bad, got, Reader, after, _>>=_, _>>_, return, Branch, _⇒_, orElse, oneOf, strip, skip, readNumber}
-use Rattle.reader.specs.Access.{skipItem, entryOf}
+use Rattle.text.specs.Read.{Parsed, bad, got, Reader, after, _>>=_, _>>_, return, Branch, _⇒_, orElse, oneOf, strip, skip, readNumber}
+use Rattle.text.specs.Access.{skipItem, entryOf}
 use Rattle.rules.specs.declared.compare.Ends.{Ends}
 
 -- Bytes in front of what is read.

@@ -11,12 +11,12 @@ use Rattle.logic.specs.declared.Judged.the-variants.{Passed, NoParent, WrongNum
 use Rattle.logic.specs.Syntax.{Step, by}
 use Rattle.logic.specs.Rules.{uses}
 use Rattle.logic.specs.Judge.{judge}
-use Rattle.reader.specs.declared.forms.LineAt.{LineAt}
+use Rattle.lines.specs.declared.forms.LineAt.{LineAt}
 use Rattle.reader.specs.declared.states.State as code
-use Rattle.reader.specs.Words.{bytes}
-use Rattle.reader.specs.Read.{form, readLine}
-use Rattle.reader.specs.Access.{places}
-use Rattle.reader.specs.LineAt.{lineOf}
+use Rattle.text.specs.Words.{bytes}
+use Rattle.text.specs.Read.{form, readLine}
+use Rattle.text.specs.Access.{places}
+use Rattle.lines.specs.LineAt.{lineOf}
 use Rattle.reader.specs.State.{State, clauses}
 use Rattle.reader.specs.Represents.{Represents, readFailure}
 use Rattle.rules.specs.Uses.{parentNumbers, unusedNumbers}

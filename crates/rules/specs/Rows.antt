@@ -6,7 +6,7 @@ use lib.Dec.{leb}
 use lib.ListN.{length, drop}
 use Rattle.logic.specs.declared.Judged.{Judged}
 use Rattle.logic.specs.declared.Judged.the-variants.{Passed, Misshapen, Disagrees}
-use Rattle.reader.specs.Words.{bytes}
+use Rattle.text.specs.Words.{bytes}
 use Rattle.rules.specs.Filled.{plain, sameItem, endsOf}
 use Rattle.rules.specs.Shapes.{stripAt, nextAt, positiveAt, firstAt, resultAt, objectAt}
 use Rattle.rules.specs.Claims.{itemDepth}

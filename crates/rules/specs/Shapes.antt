@@ -6,10 +6,10 @@ use lib.Dec.{leb}
 use lib.ListN.{length, drop}
 use Rattle.logic.specs.declared.Rule.{Rule}
 use Rattle.logic.specs.declared.Rule.the-variants.{Refl, Res, Fac, Par, Acy, Tra, Inc, Inh, Inp, Out, Sca, Eli}
-use Rattle.reader.specs.Words.{bytes}
-use Rattle.reader.specs.Read.{strip}
-use Rattle.reader.specs.Places.{endOf}
-use Rattle.reader.specs.Access.{skipItem, toArgument}
+use Rattle.text.specs.Words.{bytes}
+use Rattle.text.specs.Read.{strip}
+use Rattle.text.specs.Places.{endOf}
+use Rattle.text.specs.Access.{skipItem, toArgument}
 
 -- Past these bytes, past an item, past an item and a space, at argument k.
 unfoldable pub stripAt : List ℕ → List ℕ → ℕ → ℕ

@@ -7,9 +7,9 @@ use Rattle.logic.specs.declared.Rule.{Rule}
 use Rattle.logic.specs.declared.Rule.the-variants.{Refl, Res, Fac, Par, Acy, Tra, Inc, Inh, Inp, Out, Sca, Eli}
 use Rattle.logic.specs.declared.Judged.{Judged}
 use Rattle.logic.specs.declared.Judged.the-variants.{Passed}
-use Rattle.reader.specs.Words.{bytes}
-use Rattle.reader.specs.Places.{endOf}
-use Rattle.reader.specs.Access.{toOccurrence}
+use Rattle.text.specs.Words.{bytes}
+use Rattle.text.specs.Places.{endOf}
+use Rattle.text.specs.Access.{toOccurrence}
 use Rattle.rules.specs.Shapes.{firstAt, targetAt}
 use Rattle.rules.specs.Rows.{acyAt, scaAt, rewriteAt}
 use Rattle.rules.specs.Covering.{resAt, facAt, eliAt}

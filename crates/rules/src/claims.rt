@@ -1,8 +1,8 @@
 // Check 11: the claim is what the rule gives. `rest` is the rest of the line from the claim on; each function answers the place in it past what it expects.
 use crate::compare::Ends;
 use crate::compare::expect;
-use reader::access::skip;
-use reader::words::word;
+use scan::access::skip;
+use scan::words::word;
 ghost use mathlib.Core.Path.{_≡_};
 ghost use Rattle.rules.specs.Claims.{filledAt, rewrittenAt, keptAt, othersAt, linkedAt};
 

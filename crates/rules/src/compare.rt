@@ -1,13 +1,13 @@
 // Comparing filled items.
-use reader::access::entry;
-use reader::access::skip;
-use reader::numbers::number;
-use reader::words::word;
+use scan::access::entry;
+use scan::access::skip;
+use scan::numbers::number;
+use scan::words::word;
 ghost use mathlib.Core.Path.{_≡_};
 ghost use Prim.Native.Nat.{_-_};
 ghost use lib.ListN.{length, drop};
-ghost use Rattle.reader.specs.Read.{bad};
-ghost use Rattle.reader.specs.Access.{entryOf};
+ghost use Rattle.text.specs.Read.{bad};
+ghost use Rattle.text.specs.Access.{entryOf};
 ghost use Rattle.rules.specs.Filled.{fillItem, indexed, matches, endsOf, replacing, plain, both, sameItem};
 
 // The places past what was compared, in the filled text and in the other; past their ends where they differ.

@@ -13,9 +13,9 @@ use crate::shapes::result;
 use crate::shapes::target;
 use crate::uses::used;
 use logic::Rule;
-use reader::access::item;
-use reader::access::occurrence;
-use reader::words::word;
+use scan::access::item;
+use scan::access::occurrence;
+use scan::words::word;
 ghost use mathlib.Core.Path.{_≡_};
 ghost use Rattle.rules.specs.Conclusions.{reflNewAt, acyNewAt, scaNewAt, rewriteNewAt, parNewAt, subNewAt, newAt, placeAt, secondAt, droppedAt, claimAt};
 

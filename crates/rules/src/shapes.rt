@@ -1,8 +1,8 @@
 // Where the terms that a rule names stand in a literal; a place past the end says that the shape is another.
 use logic::Rule;
-use reader::access::argument;
-use reader::access::skip;
-use reader::words::word;
+use scan::access::argument;
+use scan::access::skip;
+use scan::words::word;
 ghost use mathlib.Core.Path.{_≡_};
 ghost use Rattle.rules.specs.Shapes.{nextAt, positiveAt, firstAt, orElse, ifPlace, resultAt, objectAt, targetAt};
 

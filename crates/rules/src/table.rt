@@ -9,7 +9,7 @@ use crate::shapes::first;
 use crate::shapes::target;
 use logic::Judged;
 use logic::Rule;
-use reader::access::occurrence;
+use scan::access::occurrence;
 ghost use mathlib.Core.Path.{_≡_};
 ghost use Rattle.rules.specs.Table.{parAt, subAt, rowAt};
 

@@ -1,6 +1,6 @@
 // Which of the numbers A I B J K each rule uses: checks 7 and 8 go by this table.
+use lines::summaries::both;
 use logic::Rule;
-use reader::summaries::both;
 ghost use mathlib.Core.Path.{_≡_};
 ghost use Rattle.logic.specs.Judge.{below as belowIf, zeroIfUnused};
 ghost use Rattle.rules.specs.Uses.{ruleRow, usesAt, parentNumbers, unusedNumbers};

@@ -15,14 +15,14 @@ use Rattle.logic.proofs.Steps.{given→all}
 use Rattle.logic.proofs.Entailment.{ClauseOver, AllGiven}
 use Rattle.logic.proofs.Over.{over-allowed}
 use Rattle.logic.proofs.Written.{all-written, all-given, ClaimsAllowed, inferenceOf}
-use Rattle.reader.specs.Read.{Reading, form, noForm}
-use Rattle.reader.specs.Write.{writeLines}
-use Rattle.reader.specs.Form.{formedNumber, formedTerms, formedClause, formedStep, formedLine, formedLines}
-use Rattle.reader.specs.Split.{split, readRaw}
-use Rattle.reader.specs.Figures.{Figures}
+use Rattle.text.specs.Read.{Reading, form, noForm}
+use Rattle.text.specs.Write.{writeLines}
+use Rattle.text.specs.Form.{formedNumber, formedTerms, formedClause, formedStep, formedLine, formedLines}
+use Rattle.text.specs.Split.{split, readRaw}
+use Rattle.text.specs.Figures.{Figures}
 use Rattle.reader.specs.State.{State, fresh, clauses, claimOf, advance, isEmpty, ordered, hasConstant, constantReady, withinLimits, symbolsDeclared, lineChecks, after, stateAfter}
-use Rattle.reader.proofs.Deep.{formedSymbol, formed-over}
-use Rattle.reader.proofs.Lines.{lines-complete, lines-sound}
+use Rattle.text.proofs.Deep.{formedSymbol, formed-over}
+use Rattle.text.proofs.Lines.{lines-complete, lines-sound}
 use Rattle.verdict.specs.Checks.{readings, tooLarge, stepPart, checksOf, checksAt, stateOf, tableOf, inputsOf, clausesOf, Accepted}
 use Rattle.verdict.specs.Guarantee.{LinesWithin, Within, WrittenText}
 use Rattle.verdict.proofs.Meaning.{all-lines}

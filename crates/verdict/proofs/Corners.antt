@@ -15,9 +15,9 @@ use Rattle.logic.specs.Rules.{uses, bareResult, bare, signature, scalar, filled
 use Rattle.logic.specs.Syntax.{mayBeNone, var, app, nil, link, Clause}
 use native.Mathlib.Decide.{ℕ-discrete}
 use Rattle.logic.specs.Terms.{join, count, entryOr, resultTerms, termsOf, front, rest, nth, withResult, withTerms}
-use Rattle.reader.specs.Figures.{office}
-use Rattle.reader.specs.Read.{strip, oneOf, digit, goesOn, readDigits, readNumber, readNext, readItems, readMany, readVariable, readApplied, readTerm, readArguments, readResult, readLink, readObject, readMethod, readKind, readAtom, readSign, readLiteral, readClause, readLet, readRule, readSym, readInput, readStep, readForm, whole, readLine}
-use Rattle.reader.specs.Split.{push, split, readRaw}
+use Rattle.text.specs.Figures.{office}
+use Rattle.text.specs.Read.{strip, oneOf, digit, goesOn, readDigits, readNumber, readNext, readItems, readMany, readVariable, readApplied, readTerm, readArguments, readResult, readLink, readObject, readMethod, readKind, readAtom, readSign, readLiteral, readClause, readLet, readRule, readSym, readInput, readStep, readForm, whole, readLine}
+use Rattle.text.specs.Split.{push, split, readRaw}
 use Rattle.reader.specs.State.{fresh, clauses, advance, isEmpty, ordered, hasConstant, constantReady, argumentsFit, argumentsFitAll, clauseFits, listFits, withinLimits, symbolsDeclared, lineFailure, after, stateAfter}
 use Rattle.verdict.specs.Answer.{stepFailure, failure, isNil, firstEmpty, answer, finish, readOn, verdict}
 use Rattle.verdict.specs.Checks.{readings, tooLarge, stateOf, tableOf, inputsOf}

@@ -10,9 +10,9 @@ use lib.ListN.{length, getD, take, drop, length-take, drop-of-length-le}
 use lib.Seq.{drop-cons}
 use Rattle.logic.specs.Syntax.{Clause}
 use Rattle.reader.specs.declared.states.State as code
-use Rattle.reader.specs.Write.{putLiterals, putClause}
-use Rattle.reader.specs.Read.{strip}
-use Rattle.reader.specs.Places.{endOf}
+use Rattle.text.specs.Write.{putLiterals, putClause}
+use Rattle.text.specs.Read.{strip}
+use Rattle.text.specs.Places.{endOf}
 use Rattle.reader.specs.State.{State, clauses, hasConstant}
 use Rattle.reader.specs.ReadLine.{heldTable}
 use Rattle.reader.specs.Represents.{Stands, Represents}

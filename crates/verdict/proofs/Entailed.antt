@@ -16,8 +16,8 @@ use Rattle.logic.specs.Structure.{Structure, Reading, Models, ModelsAll, Satisf
 use Rattle.logic.proofs.Both.{left, right, both}
 use Rattle.logic.proofs.Steps.{all→given}
 use Rattle.logic.proofs.Entailment.{ListsOver, ClauseOver, AllGiven, ClosedUnderParents, over-before, steps-sound}
-use Rattle.reader.specs.Read.{Reading as ReadLine, form, noForm}
-use Rattle.reader.specs.Figures.{Figures}
+use Rattle.text.specs.Read.{Reading as ReadLine, form, noForm}
+use Rattle.text.specs.Figures.{Figures}
 use Rattle.reader.specs.State.{State, fresh, clauses, claimOf, advance, isEmpty, ordered, hasConstant, constantReady, withinLimits, symbolsDeclared, lineChecks, after, stateAfter}
 use Rattle.verdict.specs.declared.Verdict.{Verdict}
 use Rattle.verdict.specs.declared.Verdict.the-variants.{Refuted, Open, Refused}

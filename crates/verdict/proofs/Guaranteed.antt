@@ -6,7 +6,7 @@ use mathlib.Core.Logic.{_↔_}
 use mathlib.Core.Path.{_≡_, refl, sym, subst}
 use lib.Dec.{T}
 use Rattle.logic.specs.Structure.{Reading, plainly, truncated, notNot}
-use Rattle.reader.specs.Figures.{Figures}
+use Rattle.text.specs.Figures.{Figures}
 use Rattle.verdict.specs.declared.Verdict.{Verdict}
 use Rattle.verdict.specs.declared.Verdict.the-variants.{Refuted, Open, Refused}
 use Rattle.verdict.specs.Checks.{clausesOf, Accepted}

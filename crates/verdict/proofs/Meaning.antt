@@ -16,8 +16,8 @@ use Rattle.logic.specs.Checks.{AllPass, FailsFirst}
 use Rattle.logic.specs.Judge.{stepChecks, judge, judgedNumber}
 use Rattle.logic.proofs.Checks.{first-unique, pass-or-fail}
 use Rattle.logic.proofs.Steps.{Means as JudgeMeans, judge-means}
-use Rattle.reader.specs.Read.{Reading, form, noForm}
-use Rattle.reader.specs.Figures.{Figures}
+use Rattle.text.specs.Read.{Reading, form, noForm}
+use Rattle.text.specs.Figures.{Figures}
 use Rattle.reader.specs.State.{State, fresh, clauses, ordered, constantReady, withinLimits, symbolsDeclared, lineChecks, lineFailure, hasConstant, after, stateAfter}
 use Rattle.verdict.specs.declared.Verdict.{Verdict}
 use Rattle.verdict.specs.declared.Verdict.the-variants.{Refuted, Open, Refused}

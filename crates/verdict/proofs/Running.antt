@@ -13,20 +13,20 @@ use Rattle.logic.specs.declared.Judged.{Judged}
 use Rattle.logic.specs.Syntax.{Step, by, input}
 use Rattle.logic.specs.Syntax as syntax
 use Rattle.logic.specs.Judge.{judgedNumber}
-use Rattle.reader.specs.declared.forms.LineAt.{LineAt}
+use Rattle.lines.specs.declared.forms.LineAt.{LineAt}
 use Rattle.reader.specs.declared.states.State as code
 use Rattle.reader.specs.declared.states.Seen.{Seen}
 use Rattle.reader.specs.declared.states.Added.{Added}
-use Rattle.reader.specs.Read.{Reading, form, noForm, readLine}
-use Rattle.reader.specs.Split.{Raw, ended, unended, split, readRaw}
-use Rattle.reader.specs.Figures.{office}
-use Rattle.reader.specs.Size.{lineLength, lineEndAt, endedAt, tooLarge}
-use Rattle.reader.specs.LineAt.{formNumber, lineOf}
+use Rattle.text.specs.Read.{Reading, form, noForm, readLine}
+use Rattle.text.specs.Split.{Raw, ended, unended, split, readRaw}
+use Rattle.text.specs.Figures.{office}
+use Rattle.text.specs.Size.{lineLength, lineEndAt, endedAt, tooLarge}
+use Rattle.lines.specs.LineAt.{formNumber, lineOf}
 use Rattle.reader.specs.ReadLine.{freshState, heldTable, seenAt, addedBy, withSymbol, withAdded, hasRoom, addedTo}
 use Rattle.reader.specs.State.{State, fresh, claimOf, clauses, advance, ordered, constantReady, withinLimits, symbolsDeclared, lineFailure, after}
 use Rattle.reader.specs.Represents.{Represents, readFailure}
-use Rattle.reader.proofs.Places.{at-byte, past}
-use Rattle.reader.proofs.Sizes.{split-at, split-over, ended-length}
+use Rattle.text.proofs.Places.{at-byte, past}
+use Rattle.text.proofs.Sizes.{split-at, split-over, ended-length}
 use Rattle.reader.proofs.Held.{fresh-represents, line-seen, line-state}
 use Rattle.verdict.specs.declared.Verdict.{Verdict}
 use Rattle.verdict.specs.declared.Verdict.the-variants.{Refused}

@@ -13,7 +13,7 @@ use Rattle.logic.specs.Fill.{fill, fillAtom, fillLiteral, fillClause}
 use Rattle.logic.specs.Structure.{Structure, Reading, plainly, SatisfiesLiteral, SomeLiteral, Satisfies, Grounds, Models, ModelsAll}
 use Rattle.logic.proofs.Both.{both}
 use Rattle.logic.proofs.Every.{everything}
-use Rattle.reader.specs.Figures.{Figures, office}
+use Rattle.text.specs.Figures.{Figures, office}
 use Rattle.verdict.specs.declared.Verdict.the-variants.{Refuted}
 use Rattle.verdict.specs.Checks.{tableOf, inputsOf}
 use Rattle.verdict.specs.Answer.{verdict}

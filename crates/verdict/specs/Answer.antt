@@ -9,8 +9,8 @@ use lib.ListN.{length}
 use Rattle.logic.specs.Syntax.{Clause, Line, sym, input, by}
 use Rattle.logic.specs.Checks.{AllPass, FailsFirst}
 use Rattle.logic.specs.Judge.{judge, judgedNumber}
-use Rattle.reader.specs.Read.{Reading, form, noForm}
-use Rattle.reader.specs.Figures.{Figures}
+use Rattle.text.specs.Read.{Reading, form, noForm}
+use Rattle.text.specs.Figures.{Figures}
 use Rattle.reader.specs.State.{State, fresh, clauses, hasConstant, lineFailure, after}
 use Rattle.verdict.specs.declared.Verdict.{Verdict}
 use Rattle.verdict.specs.declared.Verdict.the-variants.{Refuted, Open, Refused}

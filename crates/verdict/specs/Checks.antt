@@ -7,10 +7,10 @@ use lib.ListN.{length}
 use Rattle.logic.specs.Syntax.{Clause, Step, Line, sym, input, by}
 use Rattle.logic.specs.Checks.{AllPass}
 use Rattle.logic.specs.Judge.{stepChecks, judge, judgedNumber}
-use Rattle.reader.specs.Read.{Reading, form, noForm}
-use Rattle.reader.specs.Split.{split, readRaw}
-use Rattle.reader.specs.Figures.{Figures}
-unfoldable pub use Rattle.reader.specs.Size.{tooLarge}
+use Rattle.text.specs.Read.{Reading, form, noForm}
+use Rattle.text.specs.Split.{split, readRaw}
+use Rattle.text.specs.Figures.{Figures}
+unfoldable pub use Rattle.text.specs.Size.{tooLarge}
 use Rattle.reader.specs.State.{State, fresh, clauses, hasConstant, lineChecks, lineFailure, after, stateAfter}
 
 -- The lines of a text, each read as a form or not.

@@ -7,9 +7,9 @@ use lib.Dec.{T}
 use Rattle.logic.specs.Syntax.{Atom, Clause, Line}
 use Rattle.logic.specs.Structure.{Structure, Reading, ModelsAll}
 use Rattle.logic.specs.Derivation.{Derivation, WrittenForm}
-use Rattle.reader.specs.Write.{writeLines}
-use Rattle.reader.specs.Form.{formedLines}
-use Rattle.reader.specs.Figures.{Figures}
+use Rattle.text.specs.Write.{writeLines}
+use Rattle.text.specs.Form.{formedLines}
+use Rattle.text.specs.Figures.{Figures}
 use Rattle.reader.specs.State.{State, fresh, advance, hasConstant, withinLimits}
 use Rattle.verdict.specs.declared.Verdict.{Verdict}
 use Rattle.verdict.specs.declared.Verdict.the-variants.{Refuted, Open, Refused}

@@ -4,9 +4,9 @@ use mathlib.Core.List.{List, _∷_, _++_}
 use mathlib.Core.Path.{_≡_}
 use lib.ListN.{length, drop}
 use Rattle.reader.specs.declared.states.State as code
-use Rattle.reader.specs.Read.{Reading, readLine}
-use Rattle.reader.specs.Split.{Raw, split, readRaw}
-use Rattle.reader.specs.Figures.{office}
+use Rattle.text.specs.Read.{Reading, readLine}
+use Rattle.text.specs.Split.{Raw, split, readRaw}
+use Rattle.text.specs.Figures.{office}
 use Rattle.reader.specs.State.{State, clauses, after}
 use Rattle.reader.specs.ReadLine.{withAdded}
 use Rattle.reader.specs.Represents.{Represents}

@@ -1,8 +1,8 @@
 // The verdict of a text: its lines are read and judged one after the other, and where none fails the clauses are counted.
 
+use lines::forms::STEP;
+use lines::forms::form_number;
 use logic::Judged;
-use reader::forms::STEP;
-use reader::forms::form_number;
 use reader::states::Added;
 use reader::states::State;
 use reader::states::adds;
@@ -10,10 +10,10 @@ use reader::states::after;
 use reader::states::fresh;
 use reader::states::has_constant;
 use reader::states::see;
-use reader::texts::line_end;
-use reader::texts::too_large;
-use reader::words::word;
 use rules::steps::judge_read;
+use scan::texts::line_end;
+use scan::texts::too_large;
+use scan::words::word;
 ghost use Prim.Native.Nat.{_≤_, _<_};
 ghost use mathlib.Core.Path.{_≡_};
 ghost use mathlib.Core.Bool.{false};
@@ -21,8 +21,8 @@ ghost use lib.Dec.{T};
 ghost use lib.ListN.{length};
 ghost use Rattle.logic.specs.Judge.{judgedNumber};
 ghost use Rattle.logic.specs.Structure.{plainly, truncated, notNot};
-ghost use Rattle.reader.specs.Figures.{office};
-ghost use Rattle.reader.specs.Size.{lineEndAt};
+ghost use Rattle.text.specs.Figures.{office};
+ghost use Rattle.text.specs.Size.{lineEndAt};
 ghost use Rattle.reader.specs.State.{fresh as freshly};
 ghost use Rattle.verdict.specs.Checks.{readings, tooLarge};
 ghost use Rattle.verdict.specs.Answer.{readOn, verdict};

@@ -3,7 +3,7 @@ use borrow.Author.Tests.{le-leb, lt-leb, lt-ltb, le-ltb, eq-eqb, ne-eqb}
 use mathlib.Core.Path.{_≡_}
 use native.Mathlib.Omega.{arith}
 use Rattle.reader.specs.ReadLine.{lineFits, clauseFailure, failureIn, failureOf}
-use Rattle.reader.specs.declared.forms.Form.the-variants.{NoForm, Sym, Input, By}
+use Rattle.lines.specs.declared.forms.Form.the-variants.{NoForm, Sym, Input, By}
 use Rattle.reader.proofs.states.failure.Statement.{statement}
 use Rattle.reader.proofs.states.failure.Tie as tie
 

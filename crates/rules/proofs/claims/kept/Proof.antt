@@ -10,7 +10,7 @@ use Rattle.rules.proofs.claims.kept.Statement.{statement}
 use Rattle.rules.proofs.claims.kept.Tie as tie
 use Rattle.rules.proofs.claims.kept.Reads as reads
 use Rattle.rules.proofs.claims.kept.Lts as lts
-use Rattle.reader.proofs.words.word.Reads as word-reads
+use Rattle.scan.proofs.words.word.Reads as word-reads
 use Rattle.rules.proofs.compare.expect.Reads as expect-reads
 
 -- src/claims.rt:44:9

@@ -6,7 +6,7 @@ use Rattle.rules.proofs.claims.linked.Statement.{statement}
 use Rattle.rules.proofs.claims.linked.Tie as tie
 use Rattle.rules.proofs.claims.linked.Reads as reads
 use Rattle.rules.proofs.claims.linked.Lts as lts
-use Rattle.reader.proofs.words.word.Reads as word-reads
+use Rattle.scan.proofs.words.word.Reads as word-reads
 use Rattle.rules.proofs.claims.filled.Reads as filled-reads
 
 -- src/claims.rt:95:43

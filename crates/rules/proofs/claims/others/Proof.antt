@@ -6,8 +6,8 @@ use mathlib.Core.Bool.{true, false}
 use lib.Dec.{eqb}
 use lib.ListN.{drop}
 use borrow.Author.Needs.{needs}
-use Rattle.reader.specs.Read.{strip}
-use Rattle.reader.specs.Places.{endOf}
+use Rattle.text.specs.Read.{strip}
+use Rattle.text.specs.Places.{endOf}
 use Rattle.rules.specs.declared.compare.Ends.{Ends}
 use Rattle.rules.specs.Shapes.{stripAt, skipAt}
 use Rattle.rules.specs.Claims.{keptAt, othersFrom, othersAt}
@@ -16,8 +16,8 @@ use Rattle.rules.proofs.claims.others.Statement.{statement}
 use Rattle.rules.proofs.claims.others.Tie as tie
 use Rattle.rules.proofs.claims.others.Reads as reads
 use Rattle.rules.proofs.claims.others.Lts as lts
-use Rattle.reader.proofs.access.skip.Reads as skip-reads
-use Rattle.reader.proofs.words.word.Reads as word-reads
+use Rattle.scan.proofs.access.skip.Reads as skip-reads
+use Rattle.scan.proofs.words.word.Reads as word-reads
 use Rattle.rules.proofs.claims.kept.Reads as kept-reads
 
 abbrev Inv-loop : tie.InvT-loop

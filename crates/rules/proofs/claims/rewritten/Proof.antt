@@ -7,7 +7,7 @@ use Rattle.rules.proofs.claims.rewritten.Statement.{statement}
 use Rattle.rules.proofs.claims.rewritten.Tie as tie
 use Rattle.rules.proofs.claims.rewritten.Reads as reads
 use Rattle.rules.proofs.claims.rewritten.Lts as lts
-use Rattle.reader.proofs.words.word.Reads as word-reads
+use Rattle.scan.proofs.words.word.Reads as word-reads
 use Rattle.rules.proofs.compare.expect.Reads as expect-reads
 
 -- src/claims.rt:77:97

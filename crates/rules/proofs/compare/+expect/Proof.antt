@@ -14,8 +14,8 @@ use borrow.Fn.PlainCycle.{Measures, is, falls, and}
 use Rattle.rules.proofs.compare.expect.Reads as expect
 use Rattle.rules.proofs.compare.expect.Kinds as expect-kinds
 use Rattle.rules.proofs.compare.+expect.Lts-expect as expect-lts
-use Rattle.reader.proofs.access.skip.Reads as skip-reads
-use Rattle.reader.proofs.words.word.Reads as word-reads
+use Rattle.scan.proofs.access.skip.Reads as skip-reads
+use Rattle.scan.proofs.words.word.Reads as word-reads
 use Rattle.rules.proofs.compare.differ.Reads as differ-reads
 use Rattle.rules.proofs.compare.expect_entry.Reads as expect-entry-reads
 use Rattle.rules.proofs.compare.+expect.{statement}

@@ -14,7 +14,7 @@ use borrow.Fn.PlainCycle.{Measures, is, falls, and}
 use Rattle.rules.proofs.compare.same.Reads as same
 use Rattle.rules.proofs.compare.same.Kinds as same-kinds
 use Rattle.rules.proofs.compare.+same.Lts-same as same-lts
-use Rattle.reader.proofs.words.word.Reads as word-reads
+use Rattle.scan.proofs.words.word.Reads as word-reads
 use Rattle.rules.proofs.compare.differ.Reads as differ-reads
 use Rattle.rules.proofs.compare.same_entry.Reads as same-entry-reads
 use Rattle.rules.proofs.compare.+same.{statement}

@@ -1,16 +1,16 @@
 use mathlib.Core.Path.{refl}
 use denote.Ref.{now}
 use native.Mathlib.Omega.{arith}
-use Rattle.reader.specs.Access.{entryOf}
+use Rattle.text.specs.Access.{entryOf}
 use Rattle.rules.proofs.Answers.{ends-at, ends-bad, find-index, entry-lost, entry-other, entry-same}
 use borrow.Author.Needs.{needs}
 use Rattle.rules.proofs.compare.expect_entry.Statement.{statement}
 use Rattle.rules.proofs.compare.expect_entry.Tie as tie
 use Rattle.rules.proofs.compare.expect_entry.Reads as reads
 use Rattle.rules.proofs.compare.expect_entry.Lts as lts
-use Rattle.reader.proofs.access.entry.Reads as entry-reads
-use Rattle.reader.proofs.numbers.number.Reads as number-reads
-use Rattle.reader.proofs.words.word.Reads as word-reads
+use Rattle.scan.proofs.access.entry.Reads as entry-reads
+use Rattle.scan.proofs.numbers.number.Reads as number-reads
+use Rattle.scan.proofs.words.word.Reads as word-reads
 use Rattle.rules.proofs.compare.differ.Reads as differ-reads
 
 -- src/compare.rt:32:9

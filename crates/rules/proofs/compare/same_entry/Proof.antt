@@ -2,7 +2,7 @@ use denote.Ref.{now}
 use mathlib.Core.Path.{_∙_, ap, refl}
 use native.Mathlib.Omega.{arith}
 use lib.ListN.{length, drop}
-use Rattle.reader.specs.Access.{entryOf}
+use Rattle.text.specs.Access.{entryOf}
 use Rattle.rules.specs.Filled.{fillItem, plain}
 use Rattle.rules.proofs.Walk.{fill-shrinks, matching-shortens, land}
 use Rattle.rules.proofs.Answers.{ends-at, ends-bad, find-index}
@@ -12,9 +12,9 @@ use Rattle.rules.proofs.compare.same_entry.Statement.{statement}
 use Rattle.rules.proofs.compare.same_entry.Tie as tie
 use Rattle.rules.proofs.compare.same_entry.Reads as reads
 use Rattle.rules.proofs.compare.same_entry.Lts as lts
-use Rattle.reader.proofs.access.entry.Reads as entry-reads
-use Rattle.reader.proofs.numbers.number.Reads as number-reads
-use Rattle.reader.proofs.words.word.Reads as word-reads
+use Rattle.scan.proofs.access.entry.Reads as entry-reads
+use Rattle.scan.proofs.numbers.number.Reads as number-reads
+use Rattle.scan.proofs.words.word.Reads as word-reads
 use Rattle.rules.proofs.compare.differ.Reads as differ-reads
 use Rattle.rules.proofs.compare.expect_filled.Reads as expect-filled-reads
 

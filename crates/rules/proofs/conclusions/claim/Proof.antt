@@ -6,7 +6,7 @@ use Rattle.rules.proofs.conclusions.claim.Statement.{statement}
 use Rattle.rules.proofs.conclusions.claim.Tie as tie
 use Rattle.rules.proofs.conclusions.claim.Reads as reads
 use Rattle.rules.proofs.conclusions.claim.Lts as lts
-use Rattle.reader.proofs.words.word.Reads as word-reads
+use Rattle.scan.proofs.words.word.Reads as word-reads
 use Rattle.rules.proofs.claims.others.Reads as others-reads
 use Rattle.rules.proofs.conclusions.dropped.Reads as dropped-reads
 use Rattle.rules.proofs.conclusions.new_literal.Reads as new-literal-reads

@@ -4,7 +4,7 @@ use Rattle.rules.proofs.conclusions.par_new.Statement.{statement}
 use Rattle.rules.proofs.conclusions.par_new.Tie as tie
 use Rattle.rules.proofs.conclusions.par_new.Reads as reads
 use Rattle.rules.proofs.conclusions.par_new.Lts as lts
-use Rattle.reader.proofs.access.occurrence.Reads as occurrence-reads
+use Rattle.scan.proofs.access.occurrence.Reads as occurrence-reads
 use Rattle.rules.proofs.conclusions.rewrite_new.Reads as rewrite-new-reads
 use Rattle.rules.proofs.shapes.first.Reads as first-reads
 

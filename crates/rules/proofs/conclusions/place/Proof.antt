@@ -5,8 +5,8 @@ use Rattle.rules.proofs.conclusions.place.Statement.{statement}
 use Rattle.rules.proofs.conclusions.place.Tie as tie
 use Rattle.rules.proofs.conclusions.place.Reads as reads
 use Rattle.rules.proofs.conclusions.place.Lts as lts
-use Rattle.reader.proofs.access.item.Reads as item-reads
-use Rattle.reader.proofs.words.word.Reads as word-reads
+use Rattle.scan.proofs.access.item.Reads as item-reads
+use Rattle.scan.proofs.words.word.Reads as word-reads
 
 -- src/conclusions.rt:159:24
 slice-aggregate-word : tie.Need-slice-aggregate-word

@@ -3,14 +3,14 @@ use mathlib.Core.Bool.{true, false}
 use Rattle.rules.specs.Covering.{headAt, bareAt}
 use Rattle.rules.specs.Shapes.{stripAt, resultAt}
 use Rattle.rules.specs.Rows.{within}
-use Rattle.reader.specs.Words.{bytes}
+use Rattle.text.specs.Words.{bytes}
 use denote.Ref.{now}
 use borrow.Author.Needs.{needs}
 use Rattle.rules.proofs.covering.bare.Statement.{statement}
 use Rattle.rules.proofs.covering.bare.Tie as tie
 use Rattle.rules.proofs.covering.bare.Reads as reads
 use Rattle.rules.proofs.covering.bare.Lts as lts
-use Rattle.reader.proofs.words.word.Reads as word-reads
+use Rattle.scan.proofs.words.word.Reads as word-reads
 use Rattle.rules.proofs.covering.head.Reads as head-reads
 use Rattle.rules.proofs.rows.calls.Reads as calls-reads
 use Rattle.rules.proofs.rows.within.Reads as within-reads

@@ -5,7 +5,7 @@ use Rattle.rules.proofs.covering.eli.Statement.{statement}
 use Rattle.rules.proofs.covering.eli.Tie as tie
 use Rattle.rules.proofs.covering.eli.Reads as reads
 use Rattle.rules.proofs.covering.eli.Lts as lts
-use Rattle.reader.proofs.words.word.Reads as word-reads
+use Rattle.scan.proofs.words.word.Reads as word-reads
 use Rattle.rules.proofs.rows.answer.Reads as answer-reads
 use Rattle.rules.proofs.rows.within.Reads as within-reads
 

@@ -7,7 +7,7 @@ use Rattle.rules.proofs.covering.atom.Reads as atom-reads
 use Rattle.rules.proofs.covering.covers.Reads as covers-reads
 use Rattle.rules.proofs.covering.same_sign.Reads as same-sign-reads
 use Rattle.rules.proofs.rows.answer.Reads as answer-reads
-use Rattle.reader.proofs.summaries.both.Reads as both-reads
+use Rattle.lines.proofs.summaries.both.Reads as both-reads
 
 -- src/covering.rt:116:28
 atom-requires : tie.Need-atom-requires

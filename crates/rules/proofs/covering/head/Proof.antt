@@ -8,7 +8,7 @@ use Rattle.rules.proofs.covering.head.Statement.{statement}
 use Rattle.rules.proofs.covering.head.Tie as tie
 use Rattle.rules.proofs.covering.head.Reads as reads
 use Rattle.rules.proofs.covering.head.Lts as lts
-use Rattle.reader.proofs.texts.clause_part.Reads as clause-part-reads
+use Rattle.scan.proofs.texts.clause_part.Reads as clause-part-reads
 
 -- src/covering.rt:27:9
 clause-part-requires : tie.Need-clause-part-requires

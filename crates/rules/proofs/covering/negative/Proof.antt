@@ -5,7 +5,7 @@ use Rattle.rules.proofs.covering.negative.Statement.{statement}
 use Rattle.rules.proofs.covering.negative.Tie as tie
 use Rattle.rules.proofs.covering.negative.Reads as reads
 use Rattle.rules.proofs.covering.negative.Lts as lts
-use Rattle.reader.proofs.words.word.Reads as word-reads
+use Rattle.scan.proofs.words.word.Reads as word-reads
 
 -- src/covering.rt:75:17
 slice-aggregate-word : tie.Need-slice-aggregate-word

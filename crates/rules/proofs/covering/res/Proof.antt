@@ -8,7 +8,7 @@ use Rattle.rules.proofs.covering.negative.Reads as negative-reads
 use Rattle.rules.proofs.rows.answer.Reads as answer-reads
 use Rattle.rules.proofs.rows.within.Reads as within-reads
 use Rattle.rules.proofs.shapes.positive.Reads as positive-reads
-use Rattle.reader.proofs.summaries.both.Reads as both-reads
+use Rattle.lines.proofs.summaries.both.Reads as both-reads
 
 -- src/covering.rt:90:9
 negative-requires : tie.Need-negative-requires

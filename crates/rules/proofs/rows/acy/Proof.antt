@@ -10,7 +10,7 @@ use Rattle.rules.proofs.rows.answer.Reads as answer-reads
 use Rattle.rules.proofs.rows.within.Reads as within-reads
 use Rattle.rules.proofs.shapes.first.Reads as first-reads
 use Rattle.rules.proofs.shapes.next.Reads as next-reads
-use Rattle.reader.proofs.summaries.both.Reads as both-reads
+use Rattle.lines.proofs.summaries.both.Reads as both-reads
 
 -- src/rows.rt:55:22
 slice-aggregate-first : tie.Need-slice-aggregate-first

@@ -9,7 +9,7 @@ use Rattle.rules.proofs.rows.answer.Reads as answer-reads
 use Rattle.rules.proofs.rows.choose.Reads as choose-reads
 use Rattle.rules.proofs.rows.within.Reads as within-reads
 use Rattle.rules.proofs.shapes.next.Reads as next-reads
-use Rattle.reader.proofs.summaries.both.Reads as both-reads
+use Rattle.lines.proofs.summaries.both.Reads as both-reads
 
 -- src/rows.rt:92:9
 next-requires : tie.Need-next-requires

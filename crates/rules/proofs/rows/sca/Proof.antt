@@ -10,7 +10,7 @@ use Rattle.rules.proofs.rows.calls.Reads as calls-reads
 use Rattle.rules.proofs.rows.same_arrow.Reads as same-arrow-reads
 use Rattle.rules.proofs.rows.within.Reads as within-reads
 use Rattle.rules.proofs.shapes.object.Reads as object-reads
-use Rattle.reader.proofs.summaries.both.Reads as both-reads
+use Rattle.lines.proofs.summaries.both.Reads as both-reads
 
 -- src/rows.rt:95:23
 slice-aggregate-object : tie.Need-slice-aggregate-object

@@ -4,7 +4,7 @@ use Rattle.rules.proofs.shapes.first.Statement.{statement}
 use Rattle.rules.proofs.shapes.first.Tie as tie
 use Rattle.rules.proofs.shapes.first.Reads as reads
 use Rattle.rules.proofs.shapes.first.Lts as lts
-use Rattle.reader.proofs.words.word.Reads as word-reads
+use Rattle.scan.proofs.words.word.Reads as word-reads
 use Rattle.rules.proofs.shapes.positive.Reads as positive-reads
 
 -- src/shapes.rt:26:13

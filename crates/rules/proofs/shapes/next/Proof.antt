@@ -5,8 +5,8 @@ use Rattle.rules.proofs.shapes.next.Statement.{statement}
 use Rattle.rules.proofs.shapes.next.Tie as tie
 use Rattle.rules.proofs.shapes.next.Reads as reads
 use Rattle.rules.proofs.shapes.next.Lts as lts
-use Rattle.reader.proofs.access.skip.Reads as skip-reads
-use Rattle.reader.proofs.words.word.Reads as word-reads
+use Rattle.scan.proofs.access.skip.Reads as skip-reads
+use Rattle.scan.proofs.words.word.Reads as word-reads
 
 -- src/shapes.rt:12:13
 skip-requires : tie.Need-skip-requires

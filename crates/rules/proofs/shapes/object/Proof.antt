@@ -5,7 +5,7 @@ use Rattle.rules.proofs.shapes.object.Statement.{statement}
 use Rattle.rules.proofs.shapes.object.Tie as tie
 use Rattle.rules.proofs.shapes.object.Reads as reads
 use Rattle.rules.proofs.shapes.object.Lts as lts
-use Rattle.reader.proofs.words.word.Reads as word-reads
+use Rattle.scan.proofs.words.word.Reads as word-reads
 use Rattle.rules.proofs.shapes.if_place.Reads as if-place-reads
 use Rattle.rules.proofs.shapes.or_else.Reads as or-else-reads
 use Rattle.rules.proofs.shapes.positive.Reads as positive-reads

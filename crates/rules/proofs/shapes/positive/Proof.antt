@@ -5,7 +5,7 @@ use Rattle.rules.proofs.shapes.positive.Statement.{statement}
 use Rattle.rules.proofs.shapes.positive.Tie as tie
 use Rattle.rules.proofs.shapes.positive.Reads as reads
 use Rattle.rules.proofs.shapes.positive.Lts as lts
-use Rattle.reader.proofs.words.word.Reads as word-reads
+use Rattle.scan.proofs.words.word.Reads as word-reads
 
 -- src/shapes.rt:19:17
 slice-aggregate-word : tie.Need-slice-aggregate-word

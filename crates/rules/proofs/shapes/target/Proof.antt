@@ -6,7 +6,7 @@ use Rattle.rules.proofs.shapes.target.Statement.{statement}
 use Rattle.rules.proofs.shapes.target.Tie as tie
 use Rattle.rules.proofs.shapes.target.Reads as reads
 use Rattle.rules.proofs.shapes.target.Lts as lts
-use Rattle.reader.proofs.access.argument.Reads as argument-reads
+use Rattle.scan.proofs.access.argument.Reads as argument-reads
 use Rattle.rules.proofs.shapes.first.Reads as first-reads
 use Rattle.rules.proofs.shapes.next.Reads as next-reads
 use Rattle.rules.proofs.shapes.object.Reads as object-reads

@@ -4,7 +4,7 @@ use Rattle.rules.proofs.steps.conclude.Statement.{statement}
 use Rattle.rules.proofs.steps.conclude.Tie as tie
 use Rattle.rules.proofs.steps.conclude.Reads as reads
 use Rattle.rules.proofs.steps.conclude.Lts as lts
-use Rattle.reader.proofs.texts.clause_part.Reads as clause-part-reads
+use Rattle.scan.proofs.texts.clause_part.Reads as clause-part-reads
 use Rattle.rules.proofs.conclusions.claim.Reads as claim-reads
 use Rattle.rules.proofs.conclusions.place.Reads as place-reads
 use Rattle.rules.proofs.conclusions.second.Reads as second-reads

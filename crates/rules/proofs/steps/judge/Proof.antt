@@ -2,10 +2,10 @@ use mathlib.Core.List.{List, []}
 use mathlib.Core.Path.{_≡_, sym, ap, subst, _∙_}
 use Prim.Native.Nat.{ℕ}
 use Rattle.logic.specs.declared.Judged.{Judged}
-use Rattle.reader.specs.declared.forms.LineAt.{LineAt}
+use Rattle.lines.specs.declared.forms.LineAt.{LineAt}
 use Rattle.reader.specs.declared.states.State.{State}
-use Rattle.reader.specs.Read.{readLine}
-use Rattle.reader.specs.LineAt.{lineOf}
+use Rattle.text.specs.Read.{readLine}
+use Rattle.lines.specs.LineAt.{lineOf}
 use Rattle.rules.specs.Judging.{partsAt, judgeAt, Judges}
 use Rattle.rules.proofs.JudgeMeets.{judge-meets}
 use borrow.Author.Needs.{needs}
@@ -13,7 +13,7 @@ use Rattle.rules.proofs.steps.judge.Statement.{statement}
 use Rattle.rules.proofs.steps.judge.Tie as tie
 use Rattle.rules.proofs.steps.judge.Reads as reads
 use Rattle.rules.proofs.steps.judge.Lts as lts
-use Rattle.reader.proofs.forms.line.Reads as line-reads
+use Rattle.lines.proofs.forms.line.Reads as line-reads
 use Rattle.rules.proofs.steps.judge_read.Reads as judge-read-reads
 
 -- src/steps.rt:171:29

@@ -2,7 +2,7 @@ use mathlib.Core.List.{List}
 use mathlib.Core.Path.{_≡_, sym, subst}
 use Prim.Native.Nat.{ℕ}
 use Rattle.logic.specs.declared.Judged.{Judged}
-use Rattle.reader.specs.declared.forms.LineAt.{LineAt}
+use Rattle.lines.specs.declared.forms.LineAt.{LineAt}
 use Rattle.rules.specs.Uses.{usesAt}
 use Rattle.rules.specs.Judging.{partsAt, JudgesRead}
 use Rattle.rules.proofs.JudgeMeets.{read-meets}

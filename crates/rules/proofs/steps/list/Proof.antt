@@ -5,8 +5,8 @@ use Rattle.rules.proofs.steps.list.Statement.{statement}
 use Rattle.rules.proofs.steps.list.Tie as tie
 use Rattle.rules.proofs.steps.list.Reads as reads
 use Rattle.rules.proofs.steps.list.Lts as lts
-use Rattle.reader.proofs.access.starts.Reads as starts-reads
-use Rattle.reader.proofs.words.word.Reads as word-reads
+use Rattle.scan.proofs.access.starts.Reads as starts-reads
+use Rattle.scan.proofs.words.word.Reads as word-reads
 
 -- src/steps.rt:51:33
 slice-aggregate-word : tie.Need-slice-aggregate-word

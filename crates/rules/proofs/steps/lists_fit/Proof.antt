@@ -5,7 +5,7 @@ use Rattle.rules.proofs.steps.lists_fit.Tie as tie
 use Rattle.rules.proofs.steps.lists_fit.Reads as reads
 use Rattle.rules.proofs.steps.lists_fit.Lts as lts
 use Rattle.rules.proofs.rows.choose.Reads as choose-reads
-use Rattle.reader.proofs.summaries.both.Reads as both-reads
+use Rattle.lines.proofs.summaries.both.Reads as both-reads
 use Rattle.rules.proofs.uses.used.Reads as used-reads
 
 -- src/steps.rt:67:25

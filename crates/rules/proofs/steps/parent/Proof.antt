@@ -4,7 +4,7 @@ use Rattle.rules.proofs.steps.parent.Statement.{statement}
 use Rattle.rules.proofs.steps.parent.Tie as tie
 use Rattle.rules.proofs.steps.parent.Reads as reads
 use Rattle.rules.proofs.steps.parent.Lts as lts
-use Rattle.reader.proofs.texts.clause_part.Reads as clause-part-reads
+use Rattle.scan.proofs.texts.clause_part.Reads as clause-part-reads
 use Rattle.rules.proofs.steps.start.Reads as start-reads
 
 -- src/steps.rt:41:9

@@ -9,7 +9,7 @@ use Rattle.rules.proofs.steps.conclude.Reads as conclude-reads
 use Rattle.rules.proofs.steps.list.Reads as list-reads
 use Rattle.rules.proofs.steps.lists_fit.Reads as lists-fit-reads
 use Rattle.rules.proofs.steps.settled.Reads as settled-reads
-use Rattle.reader.proofs.summaries.both.Reads as both-reads
+use Rattle.lines.proofs.summaries.both.Reads as both-reads
 use Rattle.rules.proofs.uses.parents_below.Reads as parents-below-reads
 use Rattle.rules.proofs.uses.unused_zero.Reads as unused-zero-reads
 

@@ -4,7 +4,7 @@ use Rattle.rules.proofs.table.par.Statement.{statement}
 use Rattle.rules.proofs.table.par.Tie as tie
 use Rattle.rules.proofs.table.par.Reads as reads
 use Rattle.rules.proofs.table.par.Lts as lts
-use Rattle.reader.proofs.access.occurrence.Reads as occurrence-reads
+use Rattle.scan.proofs.access.occurrence.Reads as occurrence-reads
 use Rattle.rules.proofs.rows.rewrite.Reads as rewrite-reads
 use Rattle.rules.proofs.shapes.first.Reads as first-reads
 

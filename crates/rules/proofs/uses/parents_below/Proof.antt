@@ -5,7 +5,7 @@ use Rattle.rules.proofs.uses.parents_below.Tie as tie
 use Rattle.rules.proofs.uses.parents_below.Reads as reads
 use Rattle.rules.proofs.uses.parents_below.Lts as lts
 use Rattle.rules.proofs.uses.below.Reads as below-reads
-use Rattle.reader.proofs.summaries.both.Reads as both-reads
+use Rattle.lines.proofs.summaries.both.Reads as both-reads
 use Rattle.rules.proofs.uses.used.Reads as used-reads
 
 -- src/uses.rt:79:21

@@ -4,7 +4,7 @@ use Rattle.rules.proofs.uses.unused_zero.Statement.{statement}
 use Rattle.rules.proofs.uses.unused_zero.Tie as tie
 use Rattle.rules.proofs.uses.unused_zero.Reads as reads
 use Rattle.rules.proofs.uses.unused_zero.Lts as lts
-use Rattle.reader.proofs.summaries.both.Reads as both-reads
+use Rattle.lines.proofs.summaries.both.Reads as both-reads
 use Rattle.rules.proofs.uses.used.Reads as used-reads
 use Rattle.rules.proofs.uses.zero_if_unused.Reads as zero-if-unused-reads
 

@@ -1,0 +1,6 @@
+pub mod Measuring
+pub mod Loop
+pub mod Parts
+pub mod AtomParts
+pub mod ClauseParts
+pub mod LineParts

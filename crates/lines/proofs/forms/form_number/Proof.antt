@@ -1,0 +1,39 @@
+use borrow.Author.Needs.{needs}
+use mathlib.Core.Path.{_≡_}
+use Rattle.lines.specs.LineAt.{formNumber}
+use Rattle.lines.specs.declared.forms.Form.the-variants.{NoForm, Sym, Input, By}
+use Rattle.lines.proofs.forms.form_number.Statement.{statement}
+use Rattle.lines.proofs.forms.form_number.Tie as tie
+
+enum-told : tie.Need-enum-told
+enum-told c = search needs
+
+enum-told-2 : tie.Need-enum-told-2
+enum-told-2 c = search needs
+
+enum-told-3 : tie.Need-enum-told-3
+enum-told-3 c = search needs
+
+enum-told-4 : tie.Need-enum-told-4
+enum-told-4 c = search needs
+
+returns : tie.Need-returns
+unfolding formNumber
+returns c = let e : c .before .before .args .f ≡ NoForm = c .enum-told .given .1 in rw e
+
+returns-2 : tie.Need-returns-2
+unfolding formNumber
+returns-2 c = let e : c .before .before .args .f ≡ Sym = c .enum-told2 .given .1 in rw e
+
+returns-3 : tie.Need-returns-3
+unfolding formNumber
+returns-3 c = let e : c .before .before .args .f ≡ Input = c .enum-told3 .given .1 in rw e
+
+returns-4 : tie.Need-returns-4
+unfolding formNumber
+returns-4 c = let e : c .before .before .args .f ≡ By = c .enum-told4 .given .1 in rw e
+
+pub form-number-spec : {M : Type 1} → statement M
+form-number-spec =
+    tie.close
+    (tie.spec enum-told enum-told-2 enum-told-3 enum-told-4 returns returns-2 returns-3 returns-4)

@@ -1,0 +1,44 @@
+use denote.Ref.{now}
+use mathlib.Core.Path.{refl, _∙_, ap}
+use Rattle.lines.specs.LineAt.{shortLine}
+use Rattle.lines.specs.declared.forms.Form.the-variants.{NoForm}
+use Rattle.lines.proofs.LineParts.{line-whole, line-broken, input-track}
+use Rattle.lines.proofs.forms.input_line.Statement.{statement}
+use Rattle.lines.proofs.forms.input_line.Tie as tie
+
+clause-requires : tie.Need-clause-requires
+clause-requires c κs = tt
+
+slice-aggregate-word : tie.Need-slice-aggregate-word
+slice-aggregate-word c = refl
+
+word-requires : tie.Need-word-requires
+word-requires c κs = tt
+
+short-requires : tie.Need-short-requires
+short-requires c κs = tt
+
+none-requires : tie.Need-none-requires
+none-requires c κs = tt
+
+short-requires-2 : tie.Need-short-requires-2
+short-requires-2 c κs = tt
+
+returns : tie.Need-returns
+returns c = let a = (c .before .before .before .before .before .before .before .before .args) in let s = now (a .s) in let table = now (a .table) in (c .short) .ensures ∙ line-whole table s (input-track table s (a .at) (a .depth) ((c .before .before .before .before .before .clause) .ensures) ((c .before .before .word) .ensures)) ((c .before .if1) .taken)
+
+returns-2 : tie.Need-returns-2
+returns-2 c = let a = (c .before .before .before .before .before .before .before .before .before .args) in let s = now (a .s) in let table = now (a .table) in (c .short2) .ensures ∙ ap (shortLine NoForm 0 0 0) ((c .before .none) .ensures) ∙ line-broken table s (input-track table s (a .at) (a .depth) ((c .before .before .before .before .before .before .clause) .ensures) ((c .before .before .before .word) .ensures)) ((c .before .before .if1) .left)
+
+pub input-line-spec : {M : Type 1} → statement M
+input-line-spec =
+    tie.close
+    (tie.spec
+    clause-requires
+    slice-aggregate-word
+    word-requires
+    short-requires
+    none-requires
+    short-requires-2
+    returns
+    returns-2)

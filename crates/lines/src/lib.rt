@@ -1,0 +1,6 @@
+// Reading a line: what form it is, where its parts stand, and a measure of them.
+mod atoms;
+mod clauses;
+pub mod forms;
+pub mod summaries;
+mod terms;

@@ -1,0 +1,53 @@
+use Prim.Native.Nat.{_≤_, _+_, _-_}
+use borrow.Author.Tests.{not-false}
+use lib.ListN.{length, drop}
+use mathlib.Core.Path.{_≡_, refl}
+use native.Mathlib.Omega.{arith}
+use Rattle.text.specs.Size.{lineLength}
+use Rattle.scan.proofs.texts.near.Statement.{statement}
+use Rattle.scan.proofs.texts.near.Tie as tie
+
+abbrev Inv-loop : tie.InvT-loop
+Inv-loop text at n i₀ i = (i ≤ length text) × (i + lineLength (drop i text) ≡ at + lineLength (drop at text))
+
+abbrev μ-loop : tie.MeasureT-loop
+μ-loop text at n i₀ i = length text - i
+
+loop-holds : tie.Need-loop-holds Inv-loop μ-loop
+loop-holds c = (omega arith, refl)
+
+sub-loop : tie.Need-sub-loop Inv-loop μ-loop
+sub-loop c = omega arith
+
+clear-requires : tie.Need-clear-requires Inv-loop μ-loop
+clear-requires c κs = omega arith
+
+returns : tie.Need-returns Inv-loop μ-loop
+returns c = c .before .before .before .loop .inv
+
+add-i : tie.Need-add-i Inv-loop μ-loop
+add-i c = omega arith
+
+loop-less : tie.Need-loop-less Inv-loop μ-loop
+loop-less c = omega arith
+
+loop-again : tie.Need-loop-again Inv-loop μ-loop
+loop-again c = (omega arith, omega (arith, c .before .before .before .loop .inv .1, c .before .clear .ensures (not-false _ (c .if1 .left))))
+
+returns-2 : tie.Need-returns-2 Inv-loop μ-loop
+returns-2 c = c .before .loop .inv
+
+pub near-spec : {M : Type 1} → statement M
+near-spec =
+    tie.close
+    (tie.spec
+    Inv-loop
+    μ-loop
+    loop-holds
+    sub-loop
+    clear-requires
+    returns
+    add-i
+    loop-less
+    loop-again
+    returns-2)

@@ -1,0 +1,64 @@
+// Fixed words of the text form.
+ghost use Prim.Native.Nat.{ℕ, _+_, _≤_};
+ghost use mathlib.Core.Path.{_≡_};
+ghost use mathlib.Core.Bool.{true, false};
+ghost use mathlib.Core.List.{[], _∷_};
+ghost use lib.ListN.{length, drop};
+ghost use Rattle.text.specs.Read.{bad, strip};
+ghost use Rattle.text.specs.Places.{endOf};
+
+// The place after the word w, if it stands at the place `at`.
+pub fn word(s: &[u8], at: usize, w: &[u8]) -> usize
+    ensures { λ r. ⌜ r ≡ endOf (now (s .entry)) (strip (now (w .entry)) (drop at (now (s .entry)))) ⌝ }
+{
+    let n = s.len();
+    if w.len() == 0 {
+        return if at < n { at } else { n };
+    }
+    let mut j = at;
+    let mut i = 0;
+    while i < w.len() {
+        if j >= n {
+            return n + 1;
+        }
+        if s[j] != w[i] {
+            return n + 1;
+        }
+        j += 1;
+        i += 1;
+    }
+    j
+}
+
+// Whether a closing bracket stands at the place.
+pub fn closes(s: &[u8], at: usize) -> bool
+    ensures { λ r. ⌜ (r ≡ true → (at + 1 ≤ length (now (s .entry))) × (at + 1 ≡ endOf (now (s .entry)) (strip (41 ∷ []) (drop at (now (s .entry)))))) × (r ≡ false → length (now (s .entry)) + 1 ≡ endOf (now (s .entry)) (strip (41 ∷ []) (drop at (now (s .entry))))) ⌝ }
+{
+    if at >= s.len() {
+        return false;
+    }
+    if s[at] != b')' {
+        return false;
+    }
+    true
+}
+
+// The byte between an opening bracket and a space, or 0.
+pub fn letter(s: &[u8], at: usize) -> u8
+    ensures { λ r. ⌜ ((b : ℕ) → (b ≡ 0 → ⊥) → (r ≡ b → (at + 3 ≤ length (now (s .entry))) × (at + 3 ≡ endOf (now (s .entry)) (strip (40 ∷ b ∷ 32 ∷ []) (drop at (now (s .entry)))))) × ((r ≡ b → ⊥) → strip (40 ∷ b ∷ 32 ∷ []) (drop at (now (s .entry))) ≡ bad)) ⌝ }
+{
+    let n = s.len();
+    if n < 3 {
+        return 0;
+    }
+    if at > n - 3 {
+        return 0;
+    }
+    if s[at] != b'(' {
+        return 0;
+    }
+    if s[at + 2] != b' ' {
+        return 0;
+    }
+    s[at + 1]
+}

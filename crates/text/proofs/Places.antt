@@ -1,0 +1,102 @@
+-- Reading at a place of a text.
+use Prim.Native.Nat.{ℕ, _+_, _≤_, _<_}
+use mathlib.Core.Path.{_≡_, refl, sym, _∙_, ap}
+use mathlib.Core.Bool.{Bool, true, false, cond}
+use mathlib.Core.List.{List, [], _∷_}
+use native.Mathlib.Omega.{arith}
+use native.Mathlib.Numerals.{add-one}
+use lib.ListN.{length, getD, drop, length-drop, drop-of-length-le}
+use lib.Seq.{drop-cons}
+use lib.Dec.{eqb}
+use borrow.Author.Tests.{eq-eqb, ne-eqb}
+use Rattle.text.specs.Read.{Parsed, bad, got, strip}
+use Rattle.text.specs.Places.{endOf}
+
+-- What stands at a place within the text, and past its end.
+pub at-byte : (s : List ℕ) (j : ℕ) → j < length s → drop j s ≡ getD s j 0 ∷ drop (j + 1) s
+at-byte s j h = rw (add-one, drop-cons s j 0)
+
+pub past : (s : List ℕ) (j : ℕ) → length s ≤ j → drop j s ≡ []
+past s j h = drop-of-length-le s h
+
+-- The place that is given where nothing is read, and where a value ends.
+pub end-bad : {A : Type 0} (s : List ℕ) {p : Parsed A} → p ≡ bad → length s + 1 ≡ endOf s p
+unfolding endOf
+end-bad s e = rw e
+
+pub end-at : {A : Type 0} (s : List ℕ) {j : ℕ} {a : A} {p : Parsed A} → j ≤ length s → p ≡ got a (drop j s) → j ≡ endOf s p
+unfolding endOf
+end-at s {j} h e = rw (e, length-drop) (omega arith)
+
+pub end-past : {A : Type 0} (s : List ℕ) (j : ℕ) {a : A} {p : Parsed A} → length s ≤ j → p ≡ got a (drop j s) → length s ≡ endOf s p
+unfolding endOf
+end-past s j h e = rw (e, length-drop) (omega arith)
+
+module _ (s w : List ℕ) (i j : ℕ) (h : i < length w) where
+  pub strip-more : j < length s → getD s j 0 ≡ getD w i 0 → strip (drop i w) (drop j s) ≡ strip (drop (i + 1) w) (drop (j + 1) s)
+  unfolding strip
+  strip-more l e = rw (at-byte w i h, at-byte s j l, eq-eqb (getD w i 0) (getD s j 0) (sym e))
+
+  pub strip-other : j < length s → (getD s j 0 ≡ getD w i 0 → ⊥) → strip (drop i w) (drop j s) ≡ bad
+  unfolding strip
+  strip-other l e = rw (at-byte w i h, at-byte s j l, ne-eqb (getD w i 0) (getD s j 0) (λ q. e (sym q)))
+
+  pub strip-past : length s ≤ j → strip (drop i w) (drop j s) ≡ bad
+  unfolding strip
+  strip-past l = rw (at-byte w i h, past s j l)
+
+pub strip-all : (w bs : List ℕ) (i : ℕ) → length w ≤ i → strip (drop i w) bs ≡ got tt bs
+unfolding strip
+strip-all w bs i h = rw (past w i h)
+
+-- One byte: it stands at the place, or another does, or none.
+module _ (s : List ℕ) (b i : ℕ) where
+  pub byte-here : i < length s → getD s i 0 ≡ b → i + 1 ≡ endOf s (strip (b ∷ []) (drop i s))
+  unfolding strip
+  byte-here h e = end-at s {a = tt} (omega arith) (rw (at-byte s i h, eq-eqb b (getD s i 0) (sym e)))
+
+  pub byte-other : i < length s → (getD s i 0 ≡ b → ⊥) → length s + 1 ≡ endOf s (strip (b ∷ []) (drop i s))
+  unfolding strip
+  byte-other h e = end-bad s (rw (at-byte s i h, ne-eqb b (getD s i 0) (λ q. e (sym q))))
+
+  pub byte-past : length s ≤ i → length s + 1 ≡ endOf s (strip (b ∷ []) (drop i s))
+  unfolding strip
+  byte-past h = end-bad s (rw (past s i h))
+
+cond-bad : {A : Type 0} (t : Bool) → _≡_ {A = Parsed A} (cond t bad bad) bad
+cond-bad true = refl
+cond-bad false = refl
+
+-- Too few bytes are left for the word.
+strip-short : (w bs : List ℕ) → length bs < length w → strip w bs ≡ bad
+unfolding strip
+strip-short [] bs h = absurd (omega arith)
+strip-short (w ∷ ws) [] h = refl
+strip-short (w ∷ ws) (b ∷ bs) h = rw (strip-short ws bs (omega arith)) (cond-bad (eqb w b))
+
+-- An opening bracket, the byte b and a space.
+module _ (s : List ℕ) (at b : ℕ) where
+  pub letter-short : length s < at + 3 → strip (40 ∷ b ∷ 32 ∷ []) (drop at s) ≡ bad
+  letter-short h = strip-short (40 ∷ b ∷ 32 ∷ []) (drop at s) (omega (arith, length-drop at s))
+
+  module _ (h : at + 3 ≤ length s) where
+    three : strip (40 ∷ b ∷ 32 ∷ []) (drop at s) ≡ cond (eqb 40 (getD s at 0)) (cond (eqb b (getD s (at + 1) 0)) (cond (eqb 32 (getD s (at + 2) 0)) (got tt (drop (at + 3) s)) bad) bad) bad
+    unfolding strip
+    three =
+        let two : at + 1 + 1 ≡ at + 2 = omega arith in
+        let three : at + 2 + 1 ≡ at + 3 = omega arith in
+        let second : drop (at + 1) s ≡ getD s (at + 1) 0 ∷ drop (at + 2) s = at-byte s (at + 1) (omega arith) ∙ ap (λ k. getD s (at + 1) 0 ∷ drop k s) two in
+        let third : drop (at + 2) s ≡ getD s (at + 2) 0 ∷ drop (at + 3) s = at-byte s (at + 2) (omega arith) ∙ ap (λ k. getD s (at + 2) 0 ∷ drop k s) three in
+        rw (at-byte s at (omega arith), second, third)
+
+    pub letter-front : (getD s at 0 ≡ 40 → ⊥) → strip (40 ∷ b ∷ 32 ∷ []) (drop at s) ≡ bad
+    letter-front n = three ∙ rw (ne-eqb 40 (getD s at 0) (λ q. n (sym q)))
+
+    pub letter-back : (getD s (at + 2) 0 ≡ 32 → ⊥) → strip (40 ∷ b ∷ 32 ∷ []) (drop at s) ≡ bad
+    letter-back n = three ∙ rw (ne-eqb 32 (getD s (at + 2) 0) (λ q. n (sym q)), cond-bad {A = Unit {0}} (eqb b (getD s (at + 1) 0))) (cond-bad (eqb 40 (getD s at 0)))
+
+    pub letter-here : getD s at 0 ≡ 40 → getD s (at + 2) 0 ≡ 32 → getD s (at + 1) 0 ≡ b → at + 3 ≡ endOf s (strip (40 ∷ b ∷ 32 ∷ []) (drop at s))
+    letter-here f g e = end-at s {a = tt} h (three ∙ rw (eq-eqb 40 (getD s at 0) (sym f), eq-eqb 32 (getD s (at + 2) 0) (sym g), eq-eqb b (getD s (at + 1) 0) (sym e)))
+
+    pub letter-other : (getD s (at + 1) 0 ≡ b → ⊥) → strip (40 ∷ b ∷ 32 ∷ []) (drop at s) ≡ bad
+    letter-other n = three ∙ rw (ne-eqb b (getD s (at + 1) 0) (λ q. n (sym q))) (cond-bad (eqb 40 (getD s at 0)))

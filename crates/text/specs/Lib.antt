@@ -1,0 +1,11 @@
+pub mod Words
+pub mod Write
+pub mod Form
+pub mod Read
+pub mod Split
+pub mod Figures
+pub mod Places
+pub mod Size
+pub mod Heads
+pub mod Kinds
+pub mod Access

@@ -1,0 +1,274 @@
+-- The list reader (document 01, "The text"): from the bytes that are left, a value and the bytes after it, or nothing.
+use Prim.Native.Nat.{ℕ, zero, suc, _+_, _*_, _-_}
+use Prim.Native.String.{String}
+use mathlib.Core.Bool.{Bool, _&&_, cond}
+use mathlib.Core.List.{List, [], _∷_, _++_, map}
+use lib.Dec.{leb, eqb}
+use lib.ListN.{length}
+use Rattle.logic.specs.declared.Sign.{Sign}
+use Rattle.logic.specs.declared.Link.{Link}
+use Rattle.logic.specs.declared.Arrow.{Arrow}
+use Rattle.logic.specs.declared.Rule.{Rule}
+use Rattle.logic.specs.Syntax.{Term, var, app, Terms, nil, cons, Result, value, none, mayBeNone, Atom, link, obj, method, Literal, lit, Clause, Line, sym, input, by}
+use Rattle.text.specs.Words.{bytes, signWord, signs, linkWord, links, arrowWord, arrows, ruleWord, rules}
+use Rattle.text.specs.Form.{maxNumber}
+
+-- Nothing, or a value and the bytes after it.
+pub data Parsed (A : Type 0) : Type 0 where
+  bad : Parsed A
+  got : A → List ℕ → Parsed A
+
+abbrev pub Reader : Type 0 → Type 0
+Reader A = List ℕ → Parsed A
+
+-- What follows a value, on the bytes after it.
+abbrev pub after : {A B : Type 0} → Parsed A → (A → Reader B) → Parsed B
+after bad f = bad
+after (got a rest) f = f a rest
+
+infixl 20 _>>=_ _>>_
+abbrev pub _>>=_ : {A B : Type 0} → Reader A → (A → Reader B) → Reader B
+_>>=_ r f bs = after (r bs) f
+
+abbrev pub _>>_ : {A B : Type 0} → Reader A → Reader B → Reader B
+_>>_ r q bs = after (r bs) (λ _. q)
+
+abbrev pub return : {A : Type 0} → A → Reader A
+return a bs = got a bs
+
+abbrev pub fail : {A : Type 0} → Reader A
+fail bs = bad
+
+-- Exactly these bytes.
+unfoldable pub strip : List ℕ → Reader (Unit {0})
+strip [] bs = got tt bs
+strip (w ∷ ws) [] = bad
+strip (w ∷ ws) (b ∷ bs) =
+    let onward = strip ws bs in
+    cond (eqb w b) onward bad
+
+abbrev pub skip : String → Reader (Unit {0})
+skip w = strip (bytes w)
+
+-- One of several words, and what is read after it.
+infix 30 _⇒_
+pub data Branch (A : Type 0) : Type 0 where
+  _⇒_ : String → Reader A → Branch A
+
+abbrev pub orElse : {A : Type 0} → Parsed (Unit {0}) → Reader A → Reader A → Reader A
+orElse bad r q bs = q bs
+orElse (got u rest) r q bs = r rest
+
+-- The first word of the list that stands there decides.
+unfoldable pub oneOf : {A : Type 0} → List (Branch A) → Reader A
+oneOf [] bs = bad
+oneOf ((w ⇒ r) ∷ others) bs = orElse (skip w bs) r (oneOf others) bs
+
+-- A branch for each entry of a table of words.
+abbrev pub each : {A B : Type 0} → (A → String) → (A → Reader B) → List A → List (Branch B)
+each w r = map (λ a. w a ⇒ r a)
+
+-- The bytes 0 to 9.
+unfoldable pub digit : ℕ → Bool
+digit b = leb 48 b && leb b 57
+
+-- "0 to 65,535, without leading zeros": another digit may follow n and make it `further`.
+unfoldable pub goesOn : ℕ → ℕ → Bool
+goesOn n further = leb 1 n && leb further maxNumber
+
+-- The digits after those read, whose value is n.
+unfoldable pub readDigits : ℕ → Reader ℕ
+readDigits n [] = got n []
+readDigits n (b ∷ bs) =
+    let further = n * 10 + (b - 48) in
+    let onward = readDigits further bs in
+    let checked = cond (goesOn n further) onward bad in
+    cond (digit b) checked (got n (b ∷ bs))
+
+-- "A number N is decimal, 0 to 65,535, without leading zeros."
+unfoldable pub readNumber : Reader ℕ
+readNumber [] = bad
+readNumber (b ∷ bs) =
+    let onward = readDigits (b - 48) bs in
+    cond (digit b) onward bad
+
+-- Items, each after one space: the closing bracket, or one item and the others.
+unfoldable pub readNext : {A S : Type 0} → S → (A → S → S) → Reader A → Reader S → Reader S
+readNext empty more read others =
+    oneOf ((")" ⇒ return empty) ∷ (" " ⇒ (do
+      a ← read
+      s ← others
+      return (more a s))) ∷ [])
+
+-- The number bounds the items; the bytes left are enough.
+unfoldable pub readItems : {A S : Type 0} → S → (A → S → S) → Reader A → ℕ → Reader S
+readItems empty more read zero bs = bad
+readItems empty more read (suc k) bs = readNext empty more read (readItems empty more read k) bs
+
+-- All the items up to the closing bracket, and the bracket.
+unfoldable pub readMany : {A S : Type 0} → S → (A → S → S) → Reader A → Reader S
+readMany empty more read bs = readItems empty more read (length bs) bs
+
+abbrev pub readTerms : Reader Term → Reader Terms
+readTerms read = readMany nil cons read
+
+-- "`(v N)`, a variable"
+unfoldable pub readVariable : Reader Term
+readVariable = do
+  n ← readNumber
+  skip ")"
+  return (var n)
+
+-- "`(f N TERM ...)`, symbol N applied"
+unfoldable pub readApplied : Reader Term → Reader Term
+readApplied read = do
+  n ← readNumber
+  ts ← readTerms read
+  return (app n ts)
+
+-- "Terms nest at most 16 terms deep, the outermost counting as 1; a deeper one isn't a form."
+unfoldable pub readTerm : ℕ → Reader Term
+readTerm zero bs = bad
+readTerm (suc depth) bs = oneOf (("(v " ⇒ readVariable) ∷ ("(f " ⇒ readApplied (readTerm depth)) ∷ []) bs
+
+-- "arguments (perhaps `()`)"
+unfoldable pub readArguments : ℕ → Reader Terms
+readArguments depth =
+    oneOf (("()" ⇒ return nil) ∷ ("(" ⇒ (do
+      t ← readTerm depth
+      ts ← readTerms (readTerm depth)
+      return (cons t ts))) ∷ [])
+
+-- "R is a term; for mv, mi, st, mt it may be the word `none`"
+-- (The empty word: whatever else stands there is read as a term.)
+unfoldable pub readResult : ℕ → Arrow → Reader Result
+readResult depth a =
+    oneOf (("none" ⇒ cond (mayBeNone a) (return none) fail) ∷ ("" ⇒ (do
+      t ← readTerm depth
+      return (value t))) ∷ [])
+
+-- "T U)" after the word
+unfoldable pub readLink : ℕ → Link → Reader Atom
+readLink depth l = do
+  skip " "
+  t ← readTerm depth
+  skip " "
+  u ← readTerm depth
+  skip ")"
+  return (link l t u)
+
+-- "T)" after the word
+unfoldable pub readObject : ℕ → Reader Atom
+readObject depth = do
+  skip " "
+  t ← readTerm depth
+  skip ")"
+  return (obj t)
+
+-- "O M (T ...) R)" after the word
+unfoldable pub readMethod : ℕ → Arrow → Reader Atom
+readMethod depth a = do
+  skip " "
+  o ← readTerm depth
+  skip " "
+  m ← readTerm depth
+  skip " "
+  ts ← readArguments depth
+  skip " "
+  r ← readResult depth a
+  skip ")"
+  return (method a o m ts r)
+
+-- The word of an atom decides what follows it.
+unfoldable pub readKind : ℕ → Reader Atom
+readKind depth = oneOf (each linkWord (readLink depth) links ++ ("obj" ⇒ readObject depth) ∷ each arrowWord (readMethod depth) arrows)
+
+-- "ATOM: `(eq T U)` equality; `(mem T U)` T : U; `(sub T U)` T :: U; `(obj T)` T[]; `(ARROW O M (T ...) R)`"
+unfoldable pub readAtom : ℕ → Reader Atom
+readAtom depth = do
+  skip "("
+  readKind depth
+
+unfoldable pub readSign : Reader Sign
+readSign = oneOf (each signWord return signs)
+
+-- "LIT is `(+ ATOM)` or `(- ATOM)`."
+unfoldable pub readLiteral : ℕ → Reader Literal
+readLiteral depth = do
+  skip "("
+  s ← readSign
+  skip " "
+  a ← readAtom depth
+  skip ")"
+  return (lit s a)
+
+-- "CLAUSE is `(or LIT ...)`, perhaps `(or)`."
+unfoldable pub readClause : ℕ → Reader Clause
+readClause depth = do
+  skip "(or"
+  readMany [] _∷_ (readLiteral depth)
+
+-- "LET is `(let TERM ...)`, perhaps `(let)`."
+unfoldable pub readLet : ℕ → Reader Terms
+readLet depth = do
+  skip "(let"
+  readTerms (readTerm depth)
+
+-- "RULE is a word of the rule table below, any other isn't a form"
+unfoldable pub readRule : Reader Rule
+readRule = oneOf (each ruleWord return rules)
+
+-- "`(sym K)`"
+unfoldable pub readSym : Reader Line
+readSym = do
+  k ← readNumber
+  skip ")"
+  return (sym k)
+
+-- "`(in CLAUSE)`"
+unfoldable pub readInput : ℕ → Reader Line
+readInput depth = do
+  c ← readClause depth
+  skip ")"
+  return (input c)
+
+-- "`(by RULE A I B J K LET LET CLAUSE)`: a step; the claim begins wherever the second list ends."
+unfoldable pub readStep : ℕ → Reader Line
+readStep depth = do
+  rule ← readRule
+  skip " "
+  a ← readNumber
+  skip " "
+  i ← readNumber
+  skip " "
+  b ← readNumber
+  skip " "
+  j ← readNumber
+  skip " "
+  k ← readNumber
+  skip " "
+  first ← readLet depth
+  skip " "
+  second ← readLet depth
+  skip " "
+  claim ← readClause depth
+  skip ")"
+  return (by (record { rule = rule; a = a; i = i; b = b; j = j; k = k; first = first; second = second; claim = claim }))
+
+-- "One form a line": a line's form and the bytes after it.
+unfoldable pub readForm : ℕ → Reader Line
+readForm depth = oneOf (("(sym " ⇒ readSym) ∷ ("(in " ⇒ readInput depth) ∷ ("(by " ⇒ readStep depth) ∷ [])
+
+-- What a line is, read whole: a form, or not.
+pub data Reading : Type 0 where
+  form : Line → Reading
+  noForm : Reading
+
+-- Nothing may follow the form.
+unfoldable pub whole : Parsed Line → Reading
+whole bad = noForm
+whole (got l []) = form l
+whole (got l (b ∷ bs)) = noForm
+
+unfoldable pub readLine : ℕ → List ℕ → Reading
+readLine depth bs = whole (readForm depth bs)
