@@ -7,63 +7,17 @@ use Rattle.lines.proofs.Parts.{few-terms}
 use Rattle.lines.proofs.atoms.arguments.Statement.{statement}
 use Rattle.lines.proofs.atoms.arguments.Tie as tie
 
-slice-aggregate-word : tie.Need-slice-aggregate-word
-slice-aggregate-word c = refl
-
-word-requires : tie.Need-word-requires
-word-requires c κs = tt
-
-none-requires : tie.Need-none-requires
-none-requires c κs = tt
-
-settle-requires : tie.Need-settle-requires
-settle-requires c κs = tt
-
 returns : tie.Need-returns
 returns c = let a = (c .before .before .before .before .before .before .before .args) in let s = now (a .s) in let table = now (a .table) in (c .settle) .ensures ∙ arguments-none table s (a .at) (a .depth) ((c .before .before .before .word) .ensures) ((c .before .before .if1) .taken) ((c .before .none) .ensures)
 
-slice-aggregate-word-2 : tie.Need-slice-aggregate-word-2
-slice-aggregate-word-2 c = refl
-
-word-requires-2 : tie.Need-word-requires-2
-word-requires-2 c κs = tt
-
-term-requires : tie.Need-term-requires
-term-requires c κs = tt
-
-terms-requires : tie.Need-terms-requires
-terms-requires c κs = tt
-
 add-recount : tie.Need-add-recount
 add-recount c = let a = (c .before .before .before .before .before .before .before .before .before .before .before .args) in let s = now (a .s) in let table = now (a .table) in omega (arith, few-terms (a .depth) table s ((c .before .before .before .term) .result .end) ((c .before .before .terms) .ensures))
-
-join-requires : tie.Need-join-requires
-join-requires c κs = tt
-
-recount-requires : tie.Need-recount-requires
-recount-requires c κs = tt
-
-settle-requires-2 : tie.Need-settle-requires-2
-settle-requires-2 c κs = tt
 
 returns-2 : tie.Need-returns-2
 returns-2 c = let a = (c .before .before .before .before .before .before .before .before .before .before .before .before .before .before .args) in let s = now (a .s) in let table = now (a .table) in (c .settle2) .ensures ∙ arguments-some table s (a .at) (a .depth) ((c .before .before .before .before .before .before .before .before .before .before .word) .ensures) ((c .before .before .before .before .before .before .before .before .before .if1) .left) ((c .before .before .before .before .before .before .before .word2) .ensures) ((c .before .before .before .before .before .before .term) .ensures) ((c .before .before .before .before .before .terms) .ensures) ((c .before .recount) .ensures ∙ ap (counted _) ((c .before .before .join) .ensures))
 
 pub arguments-spec : {M : Type 1} → statement M
 arguments-spec =
-    tie.close
-    (tie.spec
-    slice-aggregate-word
-    word-requires
-    none-requires
-    settle-requires
-    returns
-    slice-aggregate-word-2
-    word-requires-2
-    term-requires
-    terms-requires
-    add-recount
-    join-requires
-    recount-requires
-    settle-requires-2
-    returns-2)
+    tie.close (tie.spec
+    (λ c. refl) (λ c κs. tt) (λ c κs. tt) (λ c κs. tt) returns (λ c. refl) (λ c κs. tt) (λ c κs. tt) (λ c κs. tt)
+    add-recount (λ c κs. tt) (λ c κs. tt) (λ c κs. tt) returns-2)

@@ -5,17 +5,10 @@ use Rattle.lines.proofs.AtomParts.{atom-shape}
 use Rattle.lines.proofs.atoms.atom.Statement.{statement}
 use Rattle.lines.proofs.atoms.atom.Tie as tie
 
-slice-aggregate-word : tie.Need-slice-aggregate-word
-slice-aggregate-word c = refl
-
-word-requires : tie.Need-word-requires
-word-requires c κs = tt
-
-shape-requires : tie.Need-shape-requires
-shape-requires c κs = tt
-
 returns : tie.Need-returns
 returns c = let a = (c .before .before .before .before .before .args) in let s = now (a .s) in let table = now (a .table) in (c .shape) .ensures ∙ ap (summary (atomMeasure table) s) (atom-shape table s (a .at) (a .depth) ((c .before .word) .ensures))
 
 pub atom-spec : {M : Type 1} → statement M
-atom-spec = tie.close (tie.spec slice-aggregate-word word-requires shape-requires returns)
+atom-spec =
+    tie.close (tie.spec
+    (λ c. refl) (λ c κs. tt) (λ c κs. tt) returns)

@@ -5,17 +5,10 @@ use Rattle.lines.proofs.ClauseParts.{clause-word}
 use Rattle.lines.proofs.clauses.clause.Statement.{statement}
 use Rattle.lines.proofs.clauses.clause.Tie as tie
 
-slice-aggregate-word : tie.Need-slice-aggregate-word
-slice-aggregate-word c = refl
-
-word-requires : tie.Need-word-requires
-word-requires c κs = tt
-
-literals-requires : tie.Need-literals-requires
-literals-requires c κs = tt
-
 returns : tie.Need-returns
 returns c = let a = (c .before .before .before .before .before .args) in let s = now (a .s) in let table = now (a .table) in (c .literals) .ensures ∙ ap (summary (clauseMeasure table) s) (clause-word (a .depth) s (a .at) ((c .before .word) .ensures))
 
 pub clause-spec : {M : Type 1} → statement M
-clause-spec = tie.close (tie.spec slice-aggregate-word word-requires literals-requires returns)
+clause-spec =
+    tie.close (tie.spec
+    (λ c. refl) (λ c κs. tt) (λ c κs. tt) returns)

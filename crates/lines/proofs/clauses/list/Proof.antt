@@ -5,17 +5,10 @@ use Rattle.lines.proofs.ClauseParts.{let-word}
 use Rattle.lines.proofs.clauses.list.Statement.{statement}
 use Rattle.lines.proofs.clauses.list.Tie as tie
 
-slice-aggregate-word : tie.Need-slice-aggregate-word
-slice-aggregate-word c = refl
-
-word-requires : tie.Need-word-requires
-word-requires c κs = tt
-
-terms-requires : tie.Need-terms-requires
-terms-requires c κs = tt
-
 returns : tie.Need-returns
 returns c = let a = (c .before .before .before .before .before .args) in let s = now (a .s) in let table = now (a .table) in (c .terms) .ensures ∙ ap (summary (termsMeasure table) s) (let-word (a .depth) s (a .at) ((c .before .word) .ensures))
 
 pub list-spec : {M : Type 1} → statement M
-list-spec = tie.close (tie.spec slice-aggregate-word word-requires terms-requires returns)
+list-spec =
+    tie.close (tie.spec
+    (λ c. refl) (λ c κs. tt) (λ c κs. tt) returns)

@@ -15,32 +15,11 @@ Inv-loop s at depth table i₀ m₀ count₀ next₀ t12 t13 i m count next = Go
 abbrev μ-loop : tie.MeasureT-loop
 μ-loop s at depth table i₀ m₀ count₀ next₀ t12 t13 i m count next = length s + 1 - i
 
-none-requires : tie.Need-none-requires Inv-loop μ-loop
-none-requires c κs = tt
-
-slice-aggregate-word : tie.Need-slice-aggregate-word Inv-loop μ-loop
-slice-aggregate-word c = refl
-
-word-requires : tie.Need-word-requires Inv-loop μ-loop
-word-requires c κs = tt
-
 loop-holds : tie.Need-loop-holds Inv-loop μ-loop
 loop-holds c = let a = (c .before .before .before .before .before .args) in start (literal-list (a .depth) (now (a .table))) (now (a .s)) (a .at) ((c .before .before .none) .ensures) ((c .word) .ensures)
 
-literal-requires : tie.Need-literal-requires Inv-loop μ-loop
-literal-requires c κs = tt
-
-join-requires : tie.Need-join-requires Inv-loop μ-loop
-join-requires c κs = tt
-
 add-count : tie.Need-add-count Inv-loop μ-loop
 add-count c = let a = (c .before .before .before .before .before .before .before .before .before .args) in let l = (c .before .before .before .loop) in let T = literal-list (a .depth) (now (a .table)) in let s = now (a .s) in omega (arith, within T s (a .at) (l .inv) ((c .before .before .loop-test) .taken))
-
-slice-aggregate-word-2 : tie.Need-slice-aggregate-word-2 Inv-loop μ-loop
-slice-aggregate-word-2 c = refl
-
-word-requires-2 : tie.Need-word-requires-2 Inv-loop μ-loop
-word-requires-2 c κs = tt
 
 loop-less : tie.Need-loop-less Inv-loop μ-loop
 loop-less c = let a = (c .before .before .before .before .before .before .before .before .before .before .before .args) in let l = (c .before .before .before .before .before .loop) in let T = literal-list (a .depth) (now (a .table)) in let s = now (a .s) in omega (arith, going-on T s (a .at) (l .inv) ((c .before .before .before .before .loop-test) .taken) ((c .before .before .before .literal) .ensures))
@@ -48,40 +27,11 @@ loop-less c = let a = (c .before .before .before .before .before .before .before
 loop-again : tie.Need-loop-again Inv-loop μ-loop
 loop-again c = let a = (c .before .before .before .before .before .before .before .before .before .before .before .args) in let l = (c .before .before .before .before .before .loop) in let T = literal-list (a .depth) (now (a .table)) in let s = now (a .s) in turn T s (a .at) (l .inv) ((c .before .before .before .before .loop-test) .taken) ((c .before .before .before .literal) .ensures) ((c .before .before .join) .ensures) ((c .word2) .ensures)
 
-slice-aggregate-word-3 : tie.Need-slice-aggregate-word-3 Inv-loop μ-loop
-slice-aggregate-word-3 c = refl
-
-word-requires-3 : tie.Need-word-requires-3 Inv-loop μ-loop
-word-requires-3 c κs = tt
-
-recount-requires : tie.Need-recount-requires Inv-loop μ-loop
-recount-requires c κs = tt
-
-settle-requires : tie.Need-settle-requires Inv-loop μ-loop
-settle-requires c κs = tt
-
 returns : tie.Need-returns Inv-loop μ-loop
 returns c = let a = (c .before .before .before .before .before .before .before .before .before .before .before .args) in let l = (c .before .before .before .before .before .loop) in let T = literal-list (a .depth) (now (a .table)) in let s = now (a .s) in (c .settle) .ensures ∙ ap (settled s _) ((c .before .recount) .ensures) ∙ finish T s (a .at) (l .inv) ((c .before .before .before .before .loop-test) .left) ((c .before .before .word3) .ensures)
 
 pub literals-spec : {M : Type 1} → statement M
 literals-spec =
-    tie.close
-    (tie.spec
-    Inv-loop
-    μ-loop
-    none-requires
-    slice-aggregate-word
-    word-requires
-    loop-holds
-    literal-requires
-    join-requires
-    add-count
-    slice-aggregate-word-2
-    word-requires-2
-    loop-less
-    loop-again
-    slice-aggregate-word-3
-    word-requires-3
-    recount-requires
-    settle-requires
-    returns)
+    tie.close (tie.spec
+    Inv-loop μ-loop (λ c κs. tt) (λ c. refl) (λ c κs. tt) loop-holds (λ c κs. tt) (λ c κs. tt) add-count (λ c. refl)
+    (λ c κs. tt) loop-less loop-again (λ c. refl) (λ c κs. tt) (λ c κs. tt) (λ c κs. tt) returns)

@@ -5,18 +5,6 @@ use Rattle.lines.specs.declared.forms.Form.the-variants.{NoForm, Sym, In
 use Rattle.lines.proofs.forms.form_number.Statement.{statement}
 use Rattle.lines.proofs.forms.form_number.Tie as tie
 
-enum-told : tie.Need-enum-told
-enum-told c = search needs
-
-enum-told-2 : tie.Need-enum-told-2
-enum-told-2 c = search needs
-
-enum-told-3 : tie.Need-enum-told-3
-enum-told-3 c = search needs
-
-enum-told-4 : tie.Need-enum-told-4
-enum-told-4 c = search needs
-
 returns : tie.Need-returns
 unfolding formNumber
 returns c = let e : c .before .before .args .f ≡ NoForm = c .enum-told .given .1 in rw e
@@ -35,5 +23,6 @@ returns-4 c = let e : c .before .before .args .f ≡ By = c .enum-told4 .given .
 
 pub form-number-spec : {M : Type 1} → statement M
 form-number-spec =
-    tie.close
-    (tie.spec enum-told enum-told-2 enum-told-3 enum-told-4 returns returns-2 returns-3 returns-4)
+    tie.close (tie.spec
+    (λ c. search needs) (λ c. search needs) (λ c. search needs) (λ c. search needs) returns returns-2 returns-3
+    returns-4)

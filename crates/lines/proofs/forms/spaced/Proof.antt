@@ -8,18 +8,11 @@ use Rattle.text.proofs.Chain.{word-stops, handed}
 use Rattle.lines.proofs.forms.spaced.Statement.{statement}
 use Rattle.lines.proofs.forms.spaced.Tie as tie
 
-slice-aggregate-word : tie.Need-slice-aggregate-word
-slice-aggregate-word c = refl
-
-word-requires : tie.Need-word-requires
-word-requires c κs = tt
-
-number-requires : tie.Need-number-requires
-number-requires c κs = tt
-
 returns : tie.Need-returns
 unfolding readSpaced readNumber
 returns c = let a = (c .before .before .before .before .args) in let s = now (a .s) in (c .number) .ensures ∙ ap (numberAt s) (handed s (a .at) readNumber (word-stops 32 []) ((c .before .word) .ensures) refl)
 
 pub spaced-spec : {M : Type 1} → statement M
-spaced-spec = tie.close (tie.spec slice-aggregate-word word-requires number-requires returns)
+spaced-spec =
+    tie.close (tie.spec
+    (λ c. refl) (λ c κs. tt) (λ c κs. tt) returns)

@@ -3,9 +3,6 @@ use Rattle.lines.specs.Summary.{settled}
 use Rattle.lines.proofs.summaries.settle.Statement.{statement}
 use Rattle.lines.proofs.summaries.settle.Tie as tie
 
-none-requires : tie.Need-none-requires
-none-requires c κs = tt
-
 returns : tie.Need-returns
 unfolding settled
 returns c = rw (le-leb _ _ (c .if1 .taken))
@@ -15,4 +12,6 @@ unfolding settled
 returns-2 c = rw (lt-leb _ _ (c .before .if1 .left), c .none .ensures)
 
 pub settle-spec : {M : Type 1} → statement M
-settle-spec = tie.close (tie.spec none-requires returns returns-2)
+settle-spec =
+    tie.close (tie.spec
+    (λ c κs. tt) returns returns-2)

@@ -4,7 +4,7 @@ use borrow.Fn.PlainCycle.{Measures, is, falls, and}
 use denote.Ref.{now}
 use lib.ListN.{length}
 use mathlib.Core.Logic.{⊎-elim}
-use mathlib.Core.Path.{_≡_, refl, sym, _∙_, ap}
+use mathlib.Core.Path.{refl, sym, _∙_, ap}
 use native.Mathlib.Omega.{arith}
 use Rattle.lines.specs.Summary.{empty, joined, settled, summary, termMeasure, appliedMeasure}
 use Rattle.text.proofs.Places.{byte-here, byte-other, byte-past}
@@ -1109,72 +1109,17 @@ terms-returns-5 : (t : ℕ) → terms-lts.Need-returns-5 (
 terms-returns-5 t c = let a = c .before .before .before .before .before .before .before .args in let l = c .before .before .before .loop in let T = term-list (a .depth) (now (a .table)) in let s = now (a .s) in let i = l .i in c .settle5 .ensures ∙ settled-past s _ _ ∙ finish T s (a .at) (l .inv) (omega (arith, byte-past s 32 i (c .before .before .loop-test .left))) (byte-past s 41 i (c .before .before .loop-test .left))
 
 pub +terms-spec : {M : Type 1} → statement M
-+terms-spec = close μ-terms λ t. terms-lts.spec (
-  none-reads.Asked,
-  none-reads.Learnt,
-  settle-reads.Asked,
-  settle-reads.Learnt,
-  recount-reads.Asked,
-  recount-reads.Learnt,
-  letter-reads.Asked,
-  letter-reads.Learnt,
-  number-reads.Asked,
-  number-reads.Learnt,
-  closes-reads.Asked,
-  closes-reads.Learnt,
-  applied-reads.Asked,
-  applied-reads.Learnt,
-  join-reads.Asked,
-  join-reads.Learnt,
-  terms-below t,
-  terms.Post,
-  variable-reads.Asked,
-  variable-reads.Learnt,
-)
-    (terms-at t)
-    terms.Post
-    terms-Inv-loop
-    terms-μ-loop
-    (terms-none-requires t)
-    (terms-loop-holds t)
-    (terms-shared-slice-read-if1 t)
-    (terms-shared-slice-read-if2 t)
-    (terms-add-settle t)
-    (terms-none-requires-2 t)
-    (terms-settle-requires t)
-    (terms-returns t)
-    (terms-add-settle-2 t)
-    (terms-recount-requires t)
-    (terms-settle-requires-2 t)
-    (terms-returns-2 t)
-    (terms-add-settle-3 t)
-    (terms-none-requires-3 t)
-    (terms-settle-requires-3 t)
-    (terms-returns-3 t)
-    (terms-add-next t)
-    (terms-letter-requires t)
-    (terms-add-number t)
-    (terms-number-requires t)
-    (terms-closes-requires t)
-    (terms-add-i t)
-    (terms-none-requires-4 t)
-    (terms-applied-requires t)
-    (terms-join-requires t)
-    (terms-sub-terms t)
-    (terms-terms-requires t)
-    (terms-applied-requires-2 t)
-    (terms-join-requires-2 t)
-    (terms-add-settle-4 t)
-    (terms-none-requires-5 t)
-    (terms-settle-requires-4 t)
-    (terms-returns-4 t)
-    (terms-add-variable t)
-    (terms-variable-requires t)
-    (terms-join-requires-3 t)
-    (terms-add-count t)
-    (terms-loop-less t)
-    (terms-loop-again t)
-    (terms-add-settle-5 t)
-    (terms-none-requires-6 t)
-    (terms-settle-requires-5 t)
-    (terms-returns-5 t)
++terms-spec =
+    close μ-terms λ t. terms-lts.spec
+    (none-reads.Asked, none-reads.Learnt, settle-reads.Asked, settle-reads.Learnt, recount-reads.Asked, recount-reads.Learnt, letter-reads.Asked, letter-reads.Learnt, number-reads.Asked, number-reads.Learnt, closes-reads.Asked, closes-reads.Learnt, applied-reads.Asked, applied-reads.Learnt, join-reads.Asked, join-reads.Learnt, terms-below t, terms.Post, variable-reads.Asked, variable-reads.Learnt)
+    (terms-at t) terms.Post terms-Inv-loop terms-μ-loop (terms-none-requires t) (terms-loop-holds t)
+    (terms-shared-slice-read-if1 t) (terms-shared-slice-read-if2 t) (terms-add-settle t) (terms-none-requires-2 t)
+    (terms-settle-requires t) (terms-returns t) (terms-add-settle-2 t) (terms-recount-requires t)
+    (terms-settle-requires-2 t) (terms-returns-2 t) (terms-add-settle-3 t) (terms-none-requires-3 t)
+    (terms-settle-requires-3 t) (terms-returns-3 t) (terms-add-next t) (terms-letter-requires t) (terms-add-number t)
+    (terms-number-requires t) (terms-closes-requires t) (terms-add-i t) (terms-none-requires-4 t)
+    (terms-applied-requires t) (terms-join-requires t) (terms-sub-terms t) (terms-terms-requires t)
+    (terms-applied-requires-2 t) (terms-join-requires-2 t) (terms-add-settle-4 t) (terms-none-requires-5 t)
+    (terms-settle-requires-4 t) (terms-returns-4 t) (terms-add-variable t) (terms-variable-requires t)
+    (terms-join-requires-3 t) (terms-add-count t) (terms-loop-less t) (terms-loop-again t) (terms-add-settle-5 t)
+    (terms-none-requires-6 t) (terms-settle-requires-5 t) (terms-returns-5 t)

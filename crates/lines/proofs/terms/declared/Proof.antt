@@ -8,9 +8,6 @@ use Rattle.lines.proofs.terms.declared.Tie as tie
 returns : tie.Need-returns
 returns c = sym (declares-past _ _ _ (c .if1 .taken))
 
-shared-slice-read-result : tie.Need-shared-slice-read-result
-shared-slice-read-result c = search needs
-
 cast-result : tie.Need-cast-result
 cast-result c = omega (arith, c .shared-slice-known .given (c .before .before .args .f))
 
@@ -18,4 +15,6 @@ returns-2 : tie.Need-returns-2
 returns-2 c = sym (declares-at _ _ _ (c .before .if1 .left))
 
 pub declared-spec : {M : Type 1} → statement M
-declared-spec = tie.close (tie.spec returns shared-slice-read-result cast-result returns-2)
+declared-spec =
+    tie.close (tie.spec
+    returns (λ c. search needs) cast-result returns-2)

@@ -8,68 +8,20 @@ use Rattle.lines.proofs.Parts.{no-term, variable-term, applied-term, ot
 use Rattle.lines.proofs.terms.term.Statement.{statement}
 use Rattle.lines.proofs.terms.term.Tie as tie
 
-add-settle : tie.Need-add-settle
-add-settle c = search needs
-
-none-requires : tie.Need-none-requires
-none-requires c κs = search needs
-
-settle-requires : tie.Need-settle-requires
-settle-requires c κs = search needs
-
 returns : tie.Need-returns
 returns c = let a = c .before .before .before .before .before .args in let u = now (a .table) in let s = now (a .s) in c .settle .ensures ∙ no-term u s (a .at) _ (c .before .before .if1 .taken)
-
-letter-requires : tie.Need-letter-requires
-letter-requires c κs = search needs
 
 add-number : tie.Need-add-number
 add-number c = omega (arith, c .before .letter .ensures 102 (omega arith) .0 (c .if2 .taken) .0)
 
-number-requires : tie.Need-number-requires
-number-requires c κs = search needs
-
-closes-requires : tie.Need-closes-requires
-closes-requires c κs = search needs
-
 add-settle-2 : tie.Need-add-settle-2
 add-settle-2 c = omega (arith, c .before .closes .ensures .0 (c .if3 .taken) .0)
-
-none-requires-2 : tie.Need-none-requires-2
-none-requires-2 c κs = search needs
-
-applied-requires : tie.Need-applied-requires
-applied-requires c κs = search needs
-
-settle-requires-2 : tie.Need-settle-requires-2
-settle-requires-2 c κs = search needs
 
 returns-2 : tie.Need-returns-2
 returns-2 c = let a = c .before .before .before .before .before .before .before .before .before .before .before .args in let u = now (a .table) in let s = now (a .s) in let w = c .before .before .before .before .before .before .before .letter .ensures in let f = c .before .before .before .before .before .number in let e = c .before .before .before .before .closes .ensures .0 (c .before .before .before .if3 .taken) in c .settle2 .ensures ∙ ap (settled s (f .result .end + 1)) (c .before .applied .ensures ∙ ap (appliedMeasure u (f .result .value)) (c .before .before .none2 .ensures)) ∙ applied-term u s (a .at) (a .depth) (c .before .before .before .before .before .before .before .before .if1 .left) (w 118 (omega arith) .1 (λ q. omega (arith, q, c .before .before .before .before .before .before .if2 .taken))) (w 102 (omega arith) .0 (c .before .before .before .before .before .before .if2 .taken) .1) (f .ensures) (no-parts u s (f .result .end) (a .depth - 1) (e .1) (e .0))
 
-sub-terms : tie.Need-sub-terms
-sub-terms c = search needs
-
-terms-requires : tie.Need-terms-requires
-terms-requires c κs = search needs
-
-applied-requires-2 : tie.Need-applied-requires-2
-applied-requires-2 c κs = search needs
-
-settle-requires-3 : tie.Need-settle-requires-3
-settle-requires-3 c κs = search needs
-
 returns-3 : tie.Need-returns-3
 returns-3 c = let a = c .before .before .before .before .before .before .before .before .before .before .before .args in let u = now (a .table) in let s = now (a .s) in let w = c .before .before .before .before .before .before .before .letter .ensures in let f = c .before .before .before .before .before .number in c .settle3 .ensures ∙ ap (settled s (c .before .before .terms .result .end)) (c .before .applied2 .ensures) ∙ applied-term u s (a .at) (a .depth) (c .before .before .before .before .before .before .before .before .if1 .left) (w 118 (omega arith) .1 (λ q. omega (arith, q, c .before .before .before .before .before .before .if2 .taken))) (w 102 (omega arith) .0 (c .before .before .before .before .before .before .if2 .taken) .1) (f .ensures) (c .before .before .terms .ensures)
-
-add-settle-3 : tie.Need-add-settle-3
-add-settle-3 c = search needs
-
-none-requires-3 : tie.Need-none-requires-3
-none-requires-3 c κs = search needs
-
-settle-requires-4 : tie.Need-settle-requires-4
-settle-requires-4 c κs = search needs
 
 returns-4 : tie.Need-returns-4
 returns-4 c = let a = c .before .before .before .before .before .before .before .before .args in let u = now (a .table) in let s = now (a .s) in let w = c .before .before .before .before .letter .ensures in c .settle4 .ensures ∙ other-term u s (a .at) _ (a .depth) (w 118 (omega arith) .1 (c .before .before .if4 .taken)) (w 102 (omega arith) .1 (c .before .before .before .if2 .left))
@@ -77,38 +29,14 @@ returns-4 c = let a = c .before .before .before .before .before .before .before 
 add-variable : tie.Need-add-variable
 add-variable c = omega (arith, c .before .before .letter .ensures 118 (omega arith) .0 (c .if4 .left) .0)
 
-variable-requires : tie.Need-variable-requires
-variable-requires c κs = search needs
-
 returns-5 : tie.Need-returns-5
 returns-5 c = let a = c .before .before .before .before .before .before .before .args in let u = now (a .table) in let s = now (a .s) in let w = c .before .before .before .letter .ensures 118 (omega arith) .0 (c .before .if4 .left) in c .variable .ensures ∙ ap (summary (termMeasure u) s) (sym (variable-term u s (a .at) (a .depth) (c .before .before .before .before .if1 .left) (w .1) (w .0)))
 
 pub term-spec : {M : Type 1} → statement M
 term-spec =
-    tie.close
-    (tie.spec
-    add-settle
-    none-requires
-    settle-requires
-    returns
-    letter-requires
-    add-number
-    number-requires
-    closes-requires
-    add-settle-2
-    none-requires-2
-    applied-requires
-    settle-requires-2
-    returns-2
-    sub-terms
-    terms-requires
-    applied-requires-2
-    settle-requires-3
-    returns-3
-    add-settle-3
-    none-requires-3
-    settle-requires-4
-    returns-4
-    add-variable
-    variable-requires
-    returns-5)
+    tie.close (tie.spec
+    (λ c. search needs) (λ c κs. search needs) (λ c κs. search needs) returns (λ c κs. search needs) add-number
+    (λ c κs. search needs) (λ c κs. search needs) add-settle-2 (λ c κs. search needs) (λ c κs. search needs)
+    (λ c κs. search needs) returns-2 (λ c. search needs) (λ c κs. search needs) (λ c κs. search needs)
+    (λ c κs. search needs) returns-3 (λ c. search needs) (λ c κs. search needs) (λ c κs. search needs) returns-4
+    add-variable (λ c κs. search needs) returns-5)

@@ -8,21 +8,6 @@ use Rattle.lines.proofs.Parts.{variable-sum}
 use Rattle.lines.proofs.terms.variable.Statement.{statement}
 use Rattle.lines.proofs.terms.variable.Tie as tie
 
-number-requires : tie.Need-number-requires
-number-requires c κs = search needs
-
-closes-requires : tie.Need-closes-requires
-closes-requires c κs = search needs
-
-add-settle : tie.Need-add-settle
-add-settle c = search needs
-
-none-requires : tie.Need-none-requires
-none-requires c κs = search needs
-
-settle-requires : tie.Need-settle-requires
-settle-requires c κs = search needs
-
 returns : tie.Need-returns
 returns c = let a = c .before .before .before .before .before .before .before .args in let s = now (a .s) in c .settle .ensures ∙ settled-past s _ _ ∙ variable-sum (now (a .table)) s (a .at) (c .before .before .before .before .number .ensures) (c .before .before .before .closes .ensures .1 (not-true _ (c .before .before .if1 .taken)))
 
@@ -32,23 +17,11 @@ add-settle-2 c = omega (arith, number-small _ _ (c .before .before .before .numb
 add-settle-3 : tie.Need-add-settle-3
 add-settle-3 c = omega (arith, c .before .before .closes .ensures .0 (not-false _ (c .before .if1 .left)) .0)
 
-settle-requires-2 : tie.Need-settle-requires-2
-settle-requires-2 c κs = search needs
-
 returns-2 : tie.Need-returns-2
 returns-2 c = let a = c .before .before .before .before .before .before .before .args in c .settle2 .ensures ∙ variable-sum (now (a .table)) (now (a .s)) (a .at) (c .before .before .before .before .number .ensures) (c .before .before .before .closes .ensures .0 (not-false _ (c .before .before .if1 .left)) .1)
 
 pub variable-spec : {M : Type 1} → statement M
 variable-spec =
-    tie.close
-    (tie.spec
-    number-requires
-    closes-requires
-    add-settle
-    none-requires
-    settle-requires
-    returns
-    add-settle-2
-    add-settle-3
-    settle-requires-2
-    returns-2)
+    tie.close (tie.spec
+    (λ c κs. search needs) (λ c κs. search needs) (λ c. search needs) (λ c κs. search needs) (λ c κs. search needs)
+    returns add-settle-2 add-settle-3 (λ c κs. search needs) returns-2)

@@ -9,12 +9,11 @@ returns : tie.Need-returns
 unfolding byteOf
 returns c = rw (lt-leb (c .before .args .n) 255 (omega arith))
 
-cast-result : tie.Need-cast-result
-cast-result c = search needs
-
 returns-2 : tie.Need-returns-2
 unfolding byteOf
 returns-2 c = rw (le-leb (c .before .args .n) 255 (omega arith))
 
 pub byte-spec : {M : Type 1} → statement M
-byte-spec = tie.close (tie.spec returns cast-result returns-2)
+byte-spec =
+    tie.close (tie.spec
+    returns (λ c. search needs) returns-2)

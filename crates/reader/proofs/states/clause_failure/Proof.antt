@@ -13,9 +13,6 @@ returns-2 : tie.Need-returns-2
 unfolding clauseFailure
 returns-2 c = let a = (c .before .before .args) in let e : a .ready ≡ true = not-false _ ((c .before .if1) .left) in rw (e, le-ltb _ _ ((c .if2) .taken))
 
-fits-requires : tie.Need-fits-requires
-fits-requires c κs = tt
-
 returns-3 : tie.Need-returns-3
 unfolding clauseFailure
 returns-3 c = let a = (c .before .before .before .before .args) in let e : a .ready ≡ true = not-false _ ((c .before .before .before .if1) .left) in let f : lineFits (a .l) ≡ false = sym ((c .before .fits2) .ensures) ∙ not-true _ ((c .if3) .taken) in rw (e, lt-ltb _ _ ((c .before .before .if2) .left), f)
@@ -30,4 +27,5 @@ returns-5 c = let a = (c .before .before .before .before .before .before .args) 
 
 pub clause-failure-spec : {M : Type 1} → statement M
 clause-failure-spec =
-    tie.close (tie.spec returns returns-2 fits-requires returns-3 returns-4 returns-5)
+    tie.close (tie.spec
+    returns returns-2 (λ c κs. tt) returns-3 returns-4 returns-5)

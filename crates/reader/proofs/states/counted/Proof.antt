@@ -10,9 +10,6 @@ returns : tie.Need-returns
 unfolding countedIn
 returns c = let e : c .before .args .input ≡ false = not-true _ (c .if1 .taken) in rw e
 
-add-result : tie.Need-add-result
-add-result c = search needs
-
 returns-2 : tie.Need-returns-2
 unfolding countedIn
 returns-2 c = let e : c .before .before .args .input ≡ true = not-false _ (c .before .if1 .left) in rw (e, lt-ltb _ _ (c .if2 .taken))
@@ -22,4 +19,6 @@ unfolding countedIn
 returns-3 c = let e : c .before .before .args .input ≡ true = not-false _ (c .before .if1 .left) in rw (e, le-ltb _ _ (c .if2 .left))
 
 pub counted-spec : {M : Type 1} → statement M
-counted-spec = tie.close (tie.spec returns add-result returns-2 returns-3)
+counted-spec =
+    tie.close (tie.spec
+    returns (λ c. search needs) returns-2 returns-3)

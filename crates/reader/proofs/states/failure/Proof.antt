@@ -7,12 +7,6 @@ use Rattle.lines.specs.declared.forms.Form.the-variants.{NoForm, Sym, Input, By
 use Rattle.reader.proofs.states.failure.Statement.{statement}
 use Rattle.reader.proofs.states.failure.Tie as tie
 
-enum-told : tie.Need-enum-told
-enum-told c = search needs
-
-enum-told-2 : tie.Need-enum-told-2
-enum-told-2 c = search needs
-
 returns : tie.Need-returns
 unfolding failureOf failureIn
 returns c = let e : (c .before .before .before .args) .l .form ≡ Sym = c .before .enum-told2 .given .1 in rw (e, ne-eqb _ _ ((c .if1) .taken))
@@ -21,21 +15,9 @@ returns-2 : tie.Need-returns-2
 unfolding failureOf failureIn
 returns-2 c = let a = (c .before .before .before .before .args) in let e : a .l .form ≡ Sym = c .before .before .enum-told2 .given .1 in let z : a .clauses ≡ 0 = omega (arith, (c .before .if1) .left) in rw (e, eq-eqb _ _ z, le-ltb _ _ ((c .if2) .taken))
 
-enum-told-3 : tie.Need-enum-told-3
-enum-told-3 c = search needs
-
 returns-3 : tie.Need-returns-3
 unfolding failureOf failureIn
 returns-3 c = let e : (c .before .before .before .args) .l .form ≡ Input = c .before .enum-told3 .given .1 in rw (e, ne-eqb _ _ ((c .if4) .taken))
-
-clause-failure-requires : tie.Need-clause-failure-requires
-clause-failure-requires c κs = tt
-
-enum-told-4 : tie.Need-enum-told-4
-enum-told-4 c = search needs
-
-clause-failure-requires-2 : tie.Need-clause-failure-requires-2
-clause-failure-requires-2 c κs = tt
 
 returns-4 : tie.Need-returns-4
 unfolding failureOf failureIn
@@ -59,19 +41,6 @@ returns-8 c = let a = (c .before .before .before .args) in let e : a .l .form �
 
 pub failure-spec : {M : Type 1} → statement M
 failure-spec =
-    tie.close
-    (tie.spec
-    enum-told
-    enum-told-2
-    returns
-    returns-2
-    enum-told-3
-    returns-3
-    clause-failure-requires
-    enum-told-4
-    clause-failure-requires-2
-    returns-4
-    returns-5
-    returns-6
-    returns-7
-    returns-8)
+    tie.close (tie.spec
+    (λ c. search needs) (λ c. search needs) returns returns-2 (λ c. search needs) returns-3 (λ c κs. tt)
+    (λ c. search needs) (λ c κs. tt) returns-4 returns-5 returns-6 returns-7 returns-8)

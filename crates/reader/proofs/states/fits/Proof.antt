@@ -5,15 +5,6 @@ use Rattle.reader.specs.ReadLine.{lineFits}
 use Rattle.reader.proofs.states.fits.Statement.{statement}
 use Rattle.reader.proofs.states.fits.Tie as tie
 
-larger-requires : tie.Need-larger-requires
-larger-requires c κs = tt
-
-larger-requires-2 : tie.Need-larger-requires-2
-larger-requires-2 c κs = tt
-
-larger-requires-3 : tie.Need-larger-requires-3
-larger-requires-3 c κs = tt
-
 returns : tie.Need-returns
 unfolding lineFits
 returns c = let l = (c .before .before .before .before .before .args) .l in let n = max (max (l .measure .count) (l .measure .width)) (max (l .firsts) (l .seconds)) in rw (lt-leb n 32 (omega arith))
@@ -24,4 +15,5 @@ returns-2 c = let l = (c .before .before .before .before .before .before .args) 
 
 pub fits-spec : {M : Type 1} → statement M
 fits-spec =
-    tie.close (tie.spec larger-requires larger-requires-2 larger-requires-3 returns returns-2)
+    tie.close (tie.spec
+    (λ c κs. tt) (λ c κs. tt) (λ c κs. tt) returns returns-2)

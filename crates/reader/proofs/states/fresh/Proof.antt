@@ -8,4 +8,6 @@ unfolding freshState
 returns c = refl
 
 pub fresh-spec : {M : Type 1} → statement M
-fresh-spec = tie.close (tie.spec returns)
+fresh-spec =
+    tie.close (tie.spec
+    returns)

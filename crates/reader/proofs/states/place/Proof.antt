@@ -14,15 +14,11 @@ returns-2 : tie.Need-returns-2
 unfolding placed
 returns-2 c = rw (lt-leb ((c .before .before .args) .start + (c .before .before .args) .at) 65535 (omega arith))
 
-add-result : tie.Need-add-result
-add-result c = search needs
-
-cast-result : tie.Need-cast-result
-cast-result c = search needs
-
 returns-3 : tie.Need-returns-3
 unfolding placed
 returns-3 c = rw (le-leb ((c .before .before .args) .start + (c .before .before .args) .at) 65535 (omega arith))
 
 pub place-spec : {M : Type 1} → statement M
-place-spec = tie.close (tie.spec returns returns-2 add-result cast-result returns-3)
+place-spec =
+    tie.close (tie.spec
+    returns returns-2 (λ c. search needs) (λ c. search needs) returns-3)

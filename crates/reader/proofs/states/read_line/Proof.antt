@@ -5,14 +5,11 @@ use denote.Ref.{now}
 use lib.ListN.{length}
 use lib.Seq.{length-take-le}
 use mathlib.Core.Logic.{⊎-elim}
-use mathlib.Core.Path.{_≡_, sym, _∙_, ap}
+use mathlib.Core.Path.{_≡_, sym, _∙_}
 use native.Mathlib.Omega.{arith}
 use Rattle.reader.proofs.StateCode.{held, failed, went-on-symbol, went-on-clause, symbol-fits, clause-fits}
 use Rattle.reader.proofs.states.read_line.Statement.{statement}
 use Rattle.reader.proofs.states.read_line.Tie as tie
-
-slice-aggregate-all : tie.Need-slice-aggregate-all
-slice-aggregate-all c = search needs
 
 slice-aggregate-see : tie.Need-slice-aggregate-see
 slice-aggregate-see c =
@@ -20,18 +17,12 @@ slice-aggregate-see c =
     let k : c .before .if1 .known ≡ min (a .state .symbols) (length (a .state .counts)) = ⊎-elim (λ w. omega arith) (λ w. omega arith) (c .before .if1 .came) in
     sym (length-take-le (c .before .if1 .known) (a .state .counts) (omega arith))
 
-see-requires : tie.Need-see-requires
-see-requires c κs = tt
-
 returns : tie.Need-returns
 returns c =
     let a = c .before .before .before .before .before .before .before .before .args in
     let j = c .before .before .before .before .if1 in
     let k : j .known ≡ min (a .state .symbols) (length (a .state .counts)) = ⊎-elim (λ w. omega arith) (λ w. omega arith) (j .came) in
     failed (a .state) (now (a .text)) (a .start) (held (a .state .counts) (a .state .symbols) (j .known) k) (c .before .before .see .ensures) (c .if2 .taken)
-
-adds-requires : tie.Need-adds-requires
-adds-requires c κs = tt
 
 add-symbol-requires : tie.Need-add-symbol-requires
 add-symbol-requires c κs =
@@ -46,9 +37,6 @@ returns-2 c =
     let j = c .before .before .before .before .before .before .before .if1 in
     let k : j .known ≡ min (a .state .symbols) (length (a .state .counts)) = ⊎-elim (λ w. omega arith) (λ w. omega arith) (j .came) in
     went-on-symbol (a .state) (now (a .text)) (a .start) (held (a .state .counts) (a .state .symbols) (j .known) k) (c .before .before .before .before .before .see .ensures) (c .before .before .adds .ensures) (omega (arith, c .before .before .before .if2 .left)) (c .before .if3 .taken) (c .add-symbol .ensures)
-
-counted-requires : tie.Need-counted-requires
-counted-requires c κs = tt
 
 add-clause-requires : tie.Need-add-clause-requires
 add-clause-requires c κs =
@@ -66,15 +54,6 @@ returns-3 c =
 
 pub read-line-spec : {M : Type 1} → statement M
 read-line-spec =
-    tie.close
-    (tie.spec
-    slice-aggregate-all
-    slice-aggregate-see
-    see-requires
-    returns
-    adds-requires
-    add-symbol-requires
-    returns-2
-    counted-requires
-    add-clause-requires
-    returns-3)
+    tie.close (tie.spec
+    (λ c. search needs) slice-aggregate-see (λ c κs. tt) returns (λ c κs. tt) add-symbol-requires returns-2
+    (λ c κs. tt) add-clause-requires returns-3)

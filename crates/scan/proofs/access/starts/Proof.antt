@@ -19,18 +19,9 @@ Inv-loop s at found₀ place₀ n₀ found place n =
 abbrev μ-loop : tie.MeasureT-loop
 μ-loop s at found₀ place₀ n₀ found place n = 32 - n
 
-add-found : tie.Need-add-found Inv-loop μ-loop
-add-found c = omega arith
-
-array-write-found : tie.Need-array-write-found Inv-loop μ-loop
-array-write-found c = omega arith
-
 loop-holds : tie.Need-loop-holds Inv-loop μ-loop
 unfolding places
 loop-holds c = (omega arith, refl, refl, refl)
-
-pass-requires : tie.Need-pass-requires Inv-loop μ-loop
-pass-requires c κs = tt
 
 returns : tie.Need-returns Inv-loop μ-loop
 returns c =
@@ -39,18 +30,6 @@ returns c =
     let s = now (a .s) in
     let e : endOf s (passItem (drop (l .place) s)) ≡ length s + 1 = omega (arith, c .before .pass .ensures, at-most s (passItem (drop (l .place) s)) refl) in
     sym (take-append-drop (l .n + 1) (l .found)) ∙ ap (λ z. take (l .n + 1) (l .found) ++ z) (l .inv .3 ∙ sym (places-past s (32 - l .n)) ∙ ap (places s (32 - l .n)) (sym e)) ∙ l .inv .2
-
-add-n : tie.Need-add-n Inv-loop μ-loop
-add-n c = omega arith
-
-mul-found : tie.Need-mul-found Inv-loop μ-loop
-mul-found c = omega arith
-
-array-write-found-2 : tie.Need-array-write-found-2 Inv-loop μ-loop
-array-write-found-2 c = omega arith
-
-loop-less : tie.Need-loop-less Inv-loop μ-loop
-loop-less c = omega arith
 
 loop-again : tie.Need-loop-again Inv-loop μ-loop
 loop-again c =
@@ -70,18 +49,6 @@ returns-2 c =
 
 pub starts-spec : {M : Type 1} → statement M
 starts-spec =
-    tie.close
-    (tie.spec
-    Inv-loop
-    μ-loop
-    add-found
-    array-write-found
-    loop-holds
-    pass-requires
-    returns
-    add-n
-    mul-found
-    array-write-found-2
-    loop-less
-    loop-again
-    returns-2)
+    tie.close (tie.spec
+    Inv-loop μ-loop (λ c. omega arith) (λ c. omega arith) loop-holds (λ c κs. tt) returns (λ c. omega arith)
+    (λ c. omega arith) (λ c. omega arith) (λ c. omega arith) loop-again returns-2)

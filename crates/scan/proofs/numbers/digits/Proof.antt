@@ -20,20 +20,8 @@ abbrev μ-loop : tie.MeasureT-loop
 loop-holds : tie.Need-loop-holds Inv-loop μ-loop
 loop-holds c = (omega arith, omega arith, refl)
 
-shared-slice-read-kind : tie.Need-shared-slice-read-kind Inv-loop μ-loop
-shared-slice-read-kind c = omega arith
-
-kind-requires : tie.Need-kind-requires Inv-loop μ-loop
-kind-requires c κs = tt
-
 returns : tie.Need-returns Inv-loop μ-loop
 returns c = let l = c .before .before .before .before .loop in number-got _ (l .inv .0) (l .inv .2 ∙ digits-stop _ (l .value) (l .i) (omega arith) (λ e. c .if1 .taken (c .before .kind .ensures ∙ e)))
-
-mul-next : tie.Need-mul-next Inv-loop μ-loop
-mul-next c = omega arith
-
-shared-slice-read-next : tie.Need-shared-slice-read-next Inv-loop μ-loop
-shared-slice-read-next c = omega arith
 
 sub-next : tie.Need-sub-next Inv-loop μ-loop
 sub-next c = let s = now (c .before .before .before .before .before .before .before .args .s) in let i = c .before .before .before .before .before .loop .i in let k : kindOf (getD s i 0) ≡ 0 = omega (arith, c .before .before .kind .ensures, c .before .if1 .left) in omega (arith, digit-range (getD s i 0) k)
@@ -44,20 +32,8 @@ cast-next c = let s = now (c .before .before .before .before .before .before .be
 add-next : tie.Need-add-next Inv-loop μ-loop
 add-next c = let s = now (c .before .before .before .before .before .before .before .args .s) in let i = c .before .before .before .before .before .loop .i in let k : kindOf (getD s i 0) ≡ 0 = omega (arith, c .before .before .kind .ensures, c .before .if1 .left) in omega (arith, digit-range (getD s i 0) k)
 
-goes-on-requires : tie.Need-goes-on-requires Inv-loop μ-loop
-goes-on-requires c κs = omega arith
-
-add-t16 : tie.Need-add-t16 Inv-loop μ-loop
-add-t16 c = omega arith
-
 returns-2 : tie.Need-returns-2 Inv-loop μ-loop
 returns-2 c = let s = now (c .before .before .before .before .before .before .before .before .before .args .s) in let i = c .before .before .before .before .before .before .before .loop .i in let k : kindOf (getD s i 0) ≡ 0 = omega (arith, c .before .before .before .before .kind .ensures, c .before .before .before .if1 .left) in let l = c .before .before .before .before .before .before .before .loop in number-bad s (l .inv .2 ∙ digits-lost s (l .value) i (omega arith) k (sym (c .before .goes-on .ensures) ∙ not-true _ (c .if2 .taken)))
-
-add-i : tie.Need-add-i Inv-loop μ-loop
-add-i c = omega arith
-
-loop-less : tie.Need-loop-less Inv-loop μ-loop
-loop-less c = omega arith
 
 loop-again : tie.Need-loop-again Inv-loop μ-loop
 loop-again c = let s = now (c .before .before .before .before .before .before .before .before .before .args .s) in let i = c .before .before .before .before .before .before .before .loop .i in let k : kindOf (getD s i 0) ≡ 0 = omega (arith, c .before .before .before .before .kind .ensures, c .before .before .before .if1 .left) in let l = c .before .before .before .before .before .before .before .loop in let g = sym (c .before .goes-on .ensures) ∙ not-false _ (c .if2 .left) in (omega arith, goes-far (l .value) _ g, l .inv .2 ∙ digits-more s (l .value) i (omega arith) k g)
@@ -67,23 +43,7 @@ returns-3 c = let l = c .before .loop in number-got _ (l .inv .0) (l .inv .2 ∙
 
 pub digits-spec : {M : Type 1} → statement M
 digits-spec =
-    tie.close
-    (tie.spec
-    Inv-loop
-    μ-loop
-    loop-holds
-    shared-slice-read-kind
-    kind-requires
-    returns
-    mul-next
-    shared-slice-read-next
-    sub-next
-    cast-next
-    add-next
-    goes-on-requires
-    add-t16
-    returns-2
-    add-i
-    loop-less
-    loop-again
-    returns-3)
+    tie.close (tie.spec
+    Inv-loop μ-loop loop-holds (λ c. omega arith) (λ c κs. tt) returns (λ c. omega arith) (λ c. omega arith) sub-next
+    cast-next add-next (λ c κs. omega arith) (λ c. omega arith) returns-2 (λ c. omega arith) (λ c. omega arith)
+    loop-again returns-3)

@@ -10,29 +10,11 @@ use Rattle.text.proofs.KindTable.{digit-range}
 use Rattle.scan.proofs.numbers.number.Statement.{statement}
 use Rattle.scan.proofs.numbers.number.Tie as tie
 
-add-t6 : tie.Need-add-t6
-add-t6 c = search needs
-
 returns : tie.Need-returns
 returns c = number-bad _ (number-past _ _ (c .if1 .taken))
 
-shared-slice-read-kind : tie.Need-shared-slice-read-kind
-shared-slice-read-kind c = search needs
-
-kind-requires : tie.Need-kind-requires
-kind-requires c κs = tt
-
-add-t11 : tie.Need-add-t11
-add-t11 c = search needs
-
 returns-2 : tie.Need-returns-2
 returns-2 c = number-bad _ (number-none (now (c .before .before .before .before .before .args .s)) (c .before .before .before .before .before .args .at) (omega arith) (λ e. c .if2 .taken (c .before .kind .ensures ∙ e)))
-
-add-digits : tie.Need-add-digits
-add-digits c = search needs
-
-shared-slice-read-digits : tie.Need-shared-slice-read-digits
-shared-slice-read-digits c = search needs
 
 sub-digits : tie.Need-sub-digits
 sub-digits c = let s = now (c .before .before .before .before .before .before .args .s) in let i = c .before .before .before .before .before .before .args .at in let k : kindOf (getD s i 0) ≡ 0 = omega (arith, c .before .before .kind .ensures, c .before .if2 .left) in omega (arith, digit-range (getD s i 0) k)
@@ -48,17 +30,6 @@ returns-3 c = let s = now (c .before .before .before .before .before .before .be
 
 pub number-spec : {M : Type 1} → statement M
 number-spec =
-    tie.close
-    (tie.spec
-    add-t6
-    returns
-    shared-slice-read-kind
-    kind-requires
-    add-t11
-    returns-2
-    add-digits
-    shared-slice-read-digits
-    sub-digits
-    cast-digits
-    digits-requires
-    returns-3)
+    tie.close (tie.spec
+    (λ c. search needs) returns (λ c. search needs) (λ c κs. tt) (λ c. search needs) returns-2 (λ c. search needs)
+    (λ c. search needs) sub-digits cast-digits digits-requires returns-3)

@@ -7,12 +7,11 @@ returns : tie.Need-returns
 unfolding orArrow
 returns c = rw (le-leb _ _ ((c .if1) .taken))
 
-word-requires : tie.Need-word-requires
-word-requires c κs = tt
-
 returns-2 : tie.Need-returns-2
 unfolding orArrow
 returns-2 c = rw (lt-leb _ _ ((c .before .if1) .left), (c .word) .ensures)
 
 pub or-arrow-spec : {M : Type 1} → statement M
-or-arrow-spec = tie.close (tie.spec returns word-requires returns-2)
+or-arrow-spec =
+    tie.close (tie.spec
+    returns (λ c κs. tt) returns-2)

@@ -19,24 +19,12 @@ returns : tie.Need-returns Inv-loop μ-loop
 unfolding lineEndAt
 returns c = rw (le-ltb _ _ ((c .if1) .taken))
 
-near-requires : tie.Need-near-requires Inv-loop μ-loop
-near-requires c κs = omega arith
-
 loop-holds : tie.Need-loop-holds Inv-loop μ-loop
 loop-holds c = c .near .ensures
-
-shared-slice-read-if2 : tie.Need-shared-slice-read-if2 Inv-loop μ-loop
-shared-slice-read-if2 c = omega arith
 
 returns-2 : tie.Need-returns-2 Inv-loop μ-loop
 unfolding lineEndAt
 returns-2 c = let l = (c .before .before .before .loop) in let x = now ((c .before .before .before .before .before .before .before .args) .text) in rw (lt-ltb _ _ ((c .before .before .before .before .before .if1) .left), ← l .inv .1, length-here x (l .i) (omega arith) ((c .if2) .taken)) (omega arith)
-
-add-i : tie.Need-add-i Inv-loop μ-loop
-add-i c = omega arith
-
-loop-less : tie.Need-loop-less Inv-loop μ-loop
-loop-less c = omega arith
 
 loop-again : tie.Need-loop-again Inv-loop μ-loop
 loop-again c = let l = (c .before .before .before .loop) in let x = now ((c .before .before .before .before .before .before .before .args) .text) in (omega arith, omega (arith, l .inv .1, length-further x (l .i) (omega arith) ((c .if2) .left)))
@@ -47,16 +35,6 @@ returns-3 c = let l = (c .before .loop) in let x = now ((c .before .before .befo
 
 pub line-end-spec : {M : Type 1} → statement M
 line-end-spec =
-    tie.close
-    (tie.spec
-    Inv-loop
-    μ-loop
-    returns
-    near-requires
-    loop-holds
-    shared-slice-read-if2
-    returns-2
-    add-i
-    loop-less
-    loop-again
-    returns-3)
+    tie.close (tie.spec
+    Inv-loop μ-loop returns (λ c κs. omega arith) loop-holds (λ c. omega arith) returns-2 (λ c. omega arith)
+    (λ c. omega arith) loop-again returns-3)

@@ -20,26 +20,8 @@ loop-holds : tie.Need-loop-holds Inv-loop μ-loop
 unfolding countFrom
 loop-holds c = (omega arith, omega arith, omega arith)
 
-shared-slice-read-if1 : tie.Need-shared-slice-read-if1 Inv-loop μ-loop
-shared-slice-read-if1 c = omega arith
-
-add-count : tie.Need-add-count Inv-loop μ-loop
-add-count c = omega arith
-
-add-i : tie.Need-add-i Inv-loop μ-loop
-add-i c = omega arith
-
-loop-less : tie.Need-loop-less Inv-loop μ-loop
-loop-less c = omega arith
-
 loop-again : tie.Need-loop-again Inv-loop μ-loop
 loop-again c = let l = (c .before .before .before .loop) in let x = now ((c .before .before .before .before .args) .text) in ⊎-elim (λ w. (omega arith, omega arith, rw (w .2) (omega (arith, l .inv .2, count-end x (l .i) (l .begun) (omega arith) (w .0 .taken))))) (λ w. (omega arith, omega arith, rw (w .2) (omega (arith, l .inv .2, count-byte x (l .i) (l .begun) (omega arith) (w .0 .left))))) ((c .if1) .came)
-
-cast-ended : tie.Need-cast-ended Inv-loop μ-loop
-cast-ended c = omega arith
-
-add-result : tie.Need-add-result Inv-loop μ-loop
-add-result c = omega arith
 
 returns : tie.Need-returns Inv-loop μ-loop
 returns c = let l = (c .before .before .loop) in let x = now ((c .before .before .before .args) .text) in let b : l .begun ≡ true = (c .if2) .taken in omega (arith, l .inv .2, count-over x (l .i) (l .begun) (omega arith) ∙ ap (λ b. cond b 1 0) b)
@@ -49,17 +31,6 @@ returns-2 c = let l = (c .before .before .loop) in let x = now ((c .before .befo
 
 pub lines-spec : {M : Type 1} → statement M
 lines-spec =
-    tie.close
-    (tie.spec
-    Inv-loop
-    μ-loop
-    loop-holds
-    shared-slice-read-if1
-    add-count
-    add-i
-    loop-less
-    loop-again
-    cast-ended
-    add-result
-    returns
-    returns-2)
+    tie.close (tie.spec
+    Inv-loop μ-loop loop-holds (λ c. omega arith) (λ c. omega arith) (λ c. omega arith) (λ c. omega arith) loop-again
+    (λ c. omega arith) (λ c. omega arith) returns returns-2)

@@ -16,20 +16,8 @@ abbrev μ-loop : tie.MeasureT-loop
 loop-holds : tie.Need-loop-holds Inv-loop μ-loop
 loop-holds c = (omega arith, refl)
 
-sub-loop : tie.Need-sub-loop Inv-loop μ-loop
-sub-loop c = omega arith
-
-clear-requires : tie.Need-clear-requires Inv-loop μ-loop
-clear-requires c κs = omega arith
-
 returns : tie.Need-returns Inv-loop μ-loop
 returns c = c .before .before .before .loop .inv
-
-add-i : tie.Need-add-i Inv-loop μ-loop
-add-i c = omega arith
-
-loop-less : tie.Need-loop-less Inv-loop μ-loop
-loop-less c = omega arith
 
 loop-again : tie.Need-loop-again Inv-loop μ-loop
 loop-again c = (omega arith, omega (arith, c .before .before .before .loop .inv .1, c .before .clear .ensures (not-false _ (c .if1 .left))))
@@ -39,15 +27,6 @@ returns-2 c = c .before .loop .inv
 
 pub near-spec : {M : Type 1} → statement M
 near-spec =
-    tie.close
-    (tie.spec
-    Inv-loop
-    μ-loop
-    loop-holds
-    sub-loop
-    clear-requires
-    returns
-    add-i
-    loop-less
-    loop-again
-    returns-2)
+    tie.close (tie.spec
+    Inv-loop μ-loop loop-holds (λ c. omega arith) (λ c κs. omega arith) returns (λ c. omega arith) (λ c. omega arith)
+    loop-again returns-2)

@@ -11,12 +11,11 @@ returns : tie.Need-returns
 unfolding tooLarge office
 returns c = rw (lt-ltb 65535 (length (now (c .before .before .args .text))) (omega arith))
 
-lines-requires : tie.Need-lines-requires
-lines-requires c κs = omega arith
-
 returns-2 : tie.Need-returns-2
 unfolding tooLarge office
 returns-2 c = rw (le-ltb 65535 (length (now (c .before .before .before .args .text))) (omega arith), (c .lines) .ensures)
 
 pub too-large-spec : {M : Type 1} → statement M
-too-large-spec = tie.close (tie.spec returns lines-requires returns-2)
+too-large-spec =
+    tie.close (tie.spec
+    returns (λ c κs. omega arith) returns-2)

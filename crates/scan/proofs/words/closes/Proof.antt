@@ -10,9 +10,6 @@ use Rattle.scan.proofs.words.closes.Tie as tie
 returns : tie.Need-returns
 returns c = let a = c .before .args in (λ e. absurd (subst T (sym e) tt), λ _. byte-past (now (a .s)) 41 (a .at) (c .if1 .taken))
 
-shared-slice-read-if2 : tie.Need-shared-slice-read-if2
-shared-slice-read-if2 c = search needs
-
 returns-2 : tie.Need-returns-2
 returns-2 c = let a = c .before .before .before .args in (λ e. absurd (subst T (sym e) tt), λ _. byte-other (now (a .s)) 41 (a .at) (omega arith) (c .if2 .taken))
 
@@ -20,4 +17,6 @@ returns-3 : tie.Need-returns-3
 returns-3 c = let a = c .before .before .before .args in (λ _. (omega arith, byte-here (now (a .s)) 41 (a .at) (omega arith) (c .if2 .left)), λ e. absurd (subst T e tt))
 
 pub closes-spec : {M : Type 1} → statement M
-closes-spec = tie.close (tie.spec returns shared-slice-read-if2 returns-2 returns-3)
+closes-spec =
+    tie.close (tie.spec
+    returns (λ c. search needs) returns-2 returns-3)

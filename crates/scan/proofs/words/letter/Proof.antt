@@ -12,41 +12,17 @@ returns c = let a = c .before .args in λ b z. (λ e. absurd (z (sym e)), λ _. 
 returns-2 : tie.Need-returns-2
 returns-2 c = let a = c .before .before .args in λ b z. (λ e. absurd (z (sym e)), λ _. letter-short (now (a .s)) (a .at) b (omega arith))
 
-shared-slice-read-if3 : tie.Need-shared-slice-read-if3
-shared-slice-read-if3 c = search needs
-
 returns-3 : tie.Need-returns-3
 returns-3 c = let a = c .before .before .before .before .args in λ b z. (λ e. absurd (z (sym e)), λ _. letter-front (now (a .s)) (a .at) b (omega arith) (c .if3 .taken))
 
-add-if4 : tie.Need-add-if4
-add-if4 c = search needs
-
-shared-slice-read-if4 : tie.Need-shared-slice-read-if4
-shared-slice-read-if4 c = search needs
-
 returns-4 : tie.Need-returns-4
 returns-4 c = let a = c .before .before .before .before .before .before .args in λ b z. (λ e. absurd (z (sym e)), λ _. letter-back (now (a .s)) (a .at) b (omega arith) (c .if4 .taken))
-
-add-result : tie.Need-add-result
-add-result c = search needs
-
-shared-slice-read-result : tie.Need-shared-slice-read-result
-shared-slice-read-result c = search needs
 
 returns-5 : tie.Need-returns-5
 returns-5 c = let a = c .before .before .before .before .before .before .before .args in λ b z. (λ e. (omega arith, letter-here (now (a .s)) (a .at) b (omega arith) (c .before .before .before .if3 .left) (c .before .if4 .left) e), λ n. letter-other (now (a .s)) (a .at) b (omega arith) n)
 
 pub letter-spec : {M : Type 1} → statement M
 letter-spec =
-    tie.close
-    (tie.spec
-    returns
-    returns-2
-    shared-slice-read-if3
-    returns-3
-    add-if4
-    shared-slice-read-if4
-    returns-4
-    add-result
-    shared-slice-read-result
-    returns-5)
+    tie.close (tie.spec
+    returns returns-2 (λ c. search needs) returns-3 (λ c. search needs) (λ c. search needs) returns-4
+    (λ c. search needs) (λ c. search needs) returns-5)

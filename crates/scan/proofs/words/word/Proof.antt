@@ -23,32 +23,11 @@ returns-2 c = let a = c .before .before .args in end-past _ (a .at) (omega arith
 loop-holds : tie.Need-loop-holds Inv-loop μ-loop
 loop-holds c = (omega arith, refl, λ h. omega (arith, h))
 
-add-result : tie.Need-add-result Inv-loop μ-loop
-add-result c = omega arith
-
 returns-3 : tie.Need-returns-3 Inv-loop μ-loop
 returns-3 c = let a = c .before .before .before .before .args in let l = c .before .before .loop in end-bad _ (l .inv .1 ∙ strip-past (now (a .s)) (now (a .w)) (l .i) (l .j) (omega arith) (omega arith))
 
-shared-slice-read-if4 : tie.Need-shared-slice-read-if4 Inv-loop μ-loop
-shared-slice-read-if4 c = omega arith
-
-shared-slice-read-if4-2 : tie.Need-shared-slice-read-if4-2 Inv-loop μ-loop
-shared-slice-read-if4-2 c = omega arith
-
-add-result-2 : tie.Need-add-result-2 Inv-loop μ-loop
-add-result-2 c = omega arith
-
 returns-4 : tie.Need-returns-4 Inv-loop μ-loop
 returns-4 c = let a = c .before .before .before .before .before .before .before .args in let l = c .before .before .before .before .before .loop in end-bad _ (l .inv .1 ∙ strip-other (now (a .s)) (now (a .w)) (l .i) (l .j) (omega arith) (omega arith) (c .if4 .taken))
-
-add-j : tie.Need-add-j Inv-loop μ-loop
-add-j c = omega arith
-
-add-i : tie.Need-add-i Inv-loop μ-loop
-add-i c = omega arith
-
-loop-less : tie.Need-loop-less Inv-loop μ-loop
-loop-less c = omega arith
 
 loop-again : tie.Need-loop-again Inv-loop μ-loop
 loop-again c = let a = c .before .before .before .before .before .before .before .args in let l = c .before .before .before .before .before .loop in (omega arith, l .inv .1 ∙ strip-more (now (a .s)) (now (a .w)) (l .i) (l .j) (omega arith) (omega arith) (omega arith), λ _. omega arith)
@@ -58,21 +37,6 @@ returns-5 c = let a = c .before .before .before .args in let l = c .before .loop
 
 pub word-spec : {M : Type 1} → statement M
 word-spec =
-    tie.close
-    (tie.spec
-    Inv-loop
-    μ-loop
-    returns
-    returns-2
-    loop-holds
-    add-result
-    returns-3
-    shared-slice-read-if4
-    shared-slice-read-if4-2
-    add-result-2
-    returns-4
-    add-j
-    add-i
-    loop-less
-    loop-again
-    returns-5)
+    tie.close (tie.spec
+    Inv-loop μ-loop returns returns-2 loop-holds (λ c. omega arith) returns-3 (λ c. omega arith) (λ c. omega arith)
+    (λ c. omega arith) returns-4 (λ c. omega arith) (λ c. omega arith) (λ c. omega arith) loop-again returns-5)
