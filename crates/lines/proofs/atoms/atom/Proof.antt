@@ -1,12 +1,11 @@
 use denote.Ref.{now}
-use mathlib.Core.Path.{refl, _∙_, ap}
-use Rattle.lines.specs.Summary.{atomMeasure, summary}
+use mathlib.Core.Path.{refl}
 use Rattle.lines.proofs.AtomParts.{atom-shape}
 use Rattle.lines.proofs.atoms.atom.Statement.{statement}
 use Rattle.lines.proofs.atoms.atom.Tie as tie
 
 returns : tie.Need-returns
-returns c = let a = (c .before .before .before .before .before .args) in let s = now (a .s) in let table = now (a .table) in (c .shape) .ensures ∙ ap (summary (atomMeasure table) s) (atom-shape table s (a .at) (a .depth) ((c .before .word) .ensures))
+returns c = let a = (c .before .before .before .before .before .args) in let s = now (a .s) in let table = now (a .table) in rw (← atom-shape table s (a .at) (a .depth) ((c .before .word) .ensures)) ((c .shape) .ensures)
 
 pub atom-spec : {M : Type 1} → statement M
 atom-spec =

@@ -1,18 +1,17 @@
 use denote.Ref.{now}
-use mathlib.Core.Path.{refl, sym, _∙_, ap}
-use Rattle.lines.specs.Summary.{atomMeasure, summary}
+use mathlib.Core.Path.{refl}
 use Rattle.lines.proofs.AtomParts.{shape-link, shape-object, shape-method}
 use Rattle.lines.proofs.atoms.shape.Statement.{statement}
 use Rattle.lines.proofs.atoms.shape.Tie as tie
 
 returns : tie.Need-returns
-returns c = let a = (c .before .before .before .before .before .before .args) in let s = now (a .s) in let table = now (a .table) in let q = shape-link table s (a .at) (a .depth) ((c .before .before .before .link) .ensures) ((c .before .if1) .taken) in (c .linked) .ensures (q .0) ∙ ap (summary (atomMeasure table) s) (sym (q .1))
+returns c = let a = (c .before .before .before .before .before .before .args) in let s = now (a .s) in let table = now (a .table) in let q = shape-link table s (a .at) (a .depth) ((c .before .before .before .link) .ensures) ((c .before .if1) .taken) in rw (q .1) ((c .linked) .ensures (q .0))
 
 returns-2 : tie.Need-returns-2
-returns-2 c = let a = (c .before .before .before .before .before .before .before .before .before .args) in let s = now (a .s) in let table = now (a .table) in (c .object) .ensures ∙ ap (summary (atomMeasure table) s) (sym (shape-object table s (a .at) (a .depth) ((c .before .before .before .before .before .before .link) .ensures) ((c .before .before .before .before .if1) .left) ((c .before .before .word) .ensures) ((c .before .if2) .taken)))
+returns-2 c = let a = (c .before .before .before .before .before .before .before .before .before .args) in let s = now (a .s) in let table = now (a .table) in rw (shape-object table s (a .at) (a .depth) ((c .before .before .before .before .before .before .link) .ensures) ((c .before .before .before .before .if1) .left) ((c .before .before .word) .ensures) ((c .before .if2) .taken)) ((c .object) .ensures)
 
 returns-3 : tie.Need-returns-3
-returns-3 c = let a = (c .before .before .before .before .before .before .before .before .before .before .args) in let s = now (a .s) in let table = now (a .table) in (c .method) .ensures ∙ ap (summary (atomMeasure table) s) (sym (shape-method table s (a .at) (a .depth) ((c .before .before .before .before .before .before .before .link) .ensures) ((c .before .before .before .before .before .if1) .left) ((c .before .before .before .word) .ensures) ((c .before .before .if2) .left) ((c .before .arrow) .ensures)))
+returns-3 c = let a = (c .before .before .before .before .before .before .before .before .before .before .args) in let s = now (a .s) in let table = now (a .table) in rw (shape-method table s (a .at) (a .depth) ((c .before .before .before .before .before .before .before .link) .ensures) ((c .before .before .before .before .before .if1) .left) ((c .before .before .before .word) .ensures) ((c .before .before .if2) .left) ((c .before .arrow) .ensures)) ((c .method) .ensures)
 
 pub shape-spec : {M : Type 1} → statement M
 shape-spec =

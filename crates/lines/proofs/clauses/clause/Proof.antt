@@ -1,12 +1,11 @@
 use denote.Ref.{now}
-use mathlib.Core.Path.{refl, _∙_, ap}
-use Rattle.lines.specs.Summary.{clauseMeasure, summary}
+use mathlib.Core.Path.{refl}
 use Rattle.lines.proofs.ClauseParts.{clause-word}
 use Rattle.lines.proofs.clauses.clause.Statement.{statement}
 use Rattle.lines.proofs.clauses.clause.Tie as tie
 
 returns : tie.Need-returns
-returns c = let a = (c .before .before .before .before .before .args) in let s = now (a .s) in let table = now (a .table) in (c .literals) .ensures ∙ ap (summary (clauseMeasure table) s) (clause-word (a .depth) s (a .at) ((c .before .word) .ensures))
+returns c = let a = (c .before .before .before .before .before .args) in let s = now (a .s) in let table = now (a .table) in rw (← clause-word (a .depth) s (a .at) ((c .before .word) .ensures)) ((c .literals) .ensures)
 
 pub clause-spec : {M : Type 1} → statement M
 clause-spec =

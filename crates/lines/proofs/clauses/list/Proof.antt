@@ -1,12 +1,11 @@
 use denote.Ref.{now}
-use mathlib.Core.Path.{refl, _∙_, ap}
-use Rattle.lines.specs.Summary.{termsMeasure, summary}
+use mathlib.Core.Path.{refl}
 use Rattle.lines.proofs.ClauseParts.{let-word}
 use Rattle.lines.proofs.clauses.list.Statement.{statement}
 use Rattle.lines.proofs.clauses.list.Tie as tie
 
 returns : tie.Need-returns
-returns c = let a = (c .before .before .before .before .before .args) in let s = now (a .s) in let table = now (a .table) in (c .terms) .ensures ∙ ap (summary (termsMeasure table) s) (let-word (a .depth) s (a .at) ((c .before .word) .ensures))
+returns c = let a = (c .before .before .before .before .before .args) in let s = now (a .s) in let table = now (a .table) in rw (← let-word (a .depth) s (a .at) ((c .before .word) .ensures)) ((c .terms) .ensures)
 
 pub list-spec : {M : Type 1} → statement M
 list-spec =
