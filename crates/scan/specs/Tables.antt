@@ -1,8 +1,8 @@
 -- The word of a table that stands at a place: its end, and which it is.
-use Prim.Native.Nat.{ℕ}
+use Prim.Native.Nat.{ℕ, _+_}
 use mathlib.Core.Bool.{cond}
-use mathlib.Core.List.{List}
-use lib.Dec.{leb}
+use mathlib.Core.List.{List, [], _∷_, _++_}
+use lib.Dec.{eqb}
 use lib.ListN.{length}
 use Rattle.logic.specs.declared.Sign.{Sign}
 use Rattle.logic.specs.declared.Sign.the-variants.{Negative}
@@ -12,12 +12,13 @@ use Rattle.logic.specs.declared.Arrow.{Arrow}
 use Rattle.logic.specs.declared.Arrow.the-variants.{Mt}
 use Rattle.logic.specs.declared.Rule.{Rule}
 use Rattle.logic.specs.declared.Rule.the-variants.{Eli}
+use Rattle.scan.specs.declared.tables.WordAt.{WordAt}
 use Rattle.scan.specs.declared.tables.LinkAt.{LinkAt}
 use Rattle.scan.specs.declared.tables.ArrowAt.{ArrowAt}
 use Rattle.scan.specs.declared.tables.RuleAt.{RuleAt}
 use Rattle.scan.specs.declared.tables.SignAt.{SignAt}
 use Rattle.text.specs.Words.{linkWord, links, arrowWord, arrows}
-use Rattle.text.specs.Read.{Parsed, Reader, return, oneOf, each}
+use Rattle.text.specs.Read.{Parsed, bad, got, Reader, return, strip, oneOf, each}
 use Rattle.text.specs.Places.{endOf, readOr}
 
 -- The words of the atoms: `eq`, `mem`, `sub`; `sv` to `mt`.
@@ -40,12 +41,15 @@ ruleAt s p = record { end = endOf s p; rule = readOr Eli (λ x. x) p }
 abbrev pub signAt : List ℕ → Parsed Sign → SignAt
 signAt s p = record { end = endOf s p; sign = readOr Negative (λ x. x) p }
 
--- What was found, or else the word x.
-unfoldable pub orLink : List ℕ → LinkAt → Parsed (Unit {0}) → Link → LinkAt
-orLink s found p x = cond (leb (found .end) (length s)) found (record { end = endOf s p; link = x })
+-- The word number n, or else what was found later.
+abbrev pub orLater : List ℕ → Parsed (Unit {0}) → ℕ → WordAt → WordAt
+orLater s bad n later = later
+orLater s (got u rest) n later = record { end = endOf s (got u rest); number = n }
 
-unfoldable pub orArrow : List ℕ → ArrowAt → Parsed (Unit {0}) → Arrow → ArrowAt
-orArrow s found p x = cond (leb (found .end) (length s)) found (record { end = endOf s p; arrow = x })
-
-unfoldable pub orRule : List ℕ → RuleAt → Parsed (Unit {0}) → Rule → RuleAt
-orRule s found p x = cond (leb (found .end) (length s)) found (record { end = endOf s p; rule = x })
+-- The first word of a table that stands there. Each ends with a space; the bytes w of word n are passed.
+unfoldable pub wordAt : List ℕ → List ℕ → ℕ → List ℕ → List ℕ → WordAt
+wordAt s bs n w [] = record { end = length s + 1; number = n }
+wordAt s bs n w (b ∷ table) =
+    let later = wordAt s bs (n + 1) [] table in
+    let on = wordAt s bs n (w ++ b ∷ []) table in
+    cond (eqb b 32) (orLater s (strip w bs) n later) on

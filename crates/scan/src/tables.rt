@@ -6,8 +6,9 @@ use logic::Rule;
 use logic::Sign;
 ghost use mathlib.Core.Path.{_≡_};
 ghost use lib.ListN.{drop};
-ghost use Rattle.text.specs.Read.{strip, readSign, readRule};
-ghost use Rattle.scan.specs.Tables.{readLinkWord, readArrowWord, linkAt, arrowAt, ruleAt, signAt, orLink, orArrow, orRule};
+ghost use mathlib.Core.List.{[]};
+ghost use Rattle.text.specs.Read.{readSign, readRule};
+ghost use Rattle.scan.specs.Tables.{readLinkWord, readArrowWord, linkAt, arrowAt, ruleAt, signAt, wordAt};
 
 pub struct LinkAt {
     pub end: usize,
@@ -29,100 +30,99 @@ pub struct SignAt {
     pub sign: Sign,
 }
 
-// What was found, or the word w.
-fn or_link(s: &[u8], at: usize, found: LinkAt, w: &[u8], link: Link) -> LinkAt
-    ensures { λ r. ⌜ r ≡ orLink (now (s .entry)) found (strip (now (w .entry)) (drop at (now (s .entry)))) link ⌝ }
-{
-    if found.end <= s.len() {
-        return found;
-    }
-    let end = word(s, at, w);
-    LinkAt { end, link }
+// Which word of a table: how many stand before it, and where it ends.
+struct WordAt {
+    end: usize,
+    number: usize,
 }
+
+// The words of the table end with a space each; the first that stands at the place.
+fn which(s: &[u8], at: usize, table: &[u8]) -> WordAt
+    ensures { λ r. ⌜ r ≡ wordAt (now (s .entry)) (drop at (now (s .entry))) 0 [] (now (table .entry)) ⌝ }
+{
+    let mut number = 0;
+    let mut from = 0;
+    let mut i = 0;
+    while i < table.len() {
+        if table[i] == b' ' {
+            let end = word(s, at, &table[from..i]);
+            if end <= s.len() {
+                return WordAt { end, number };
+            }
+            number += 1;
+            from = i + 1;
+        }
+        i += 1;
+    }
+    WordAt {
+        end: s.len() + 1,
+        number,
+    }
+}
+
+// Where no word of a table stands, its last is named.
+const LINKS: [Link; 4] = [Link::Eq, Link::Mem, Link::Sub, Link::Sub];
 
 pub fn link(s: &[u8], at: usize) -> LinkAt
     ensures { λ r. ⌜ r ≡ linkAt (now (s .entry)) (readLinkWord (drop at (now (s .entry)))) ⌝ }
 {
-    let end = word(s, at, b"eq");
-    let f = LinkAt {
-        end,
-        link: Link::Eq,
-    };
-    let f = or_link(s, at, f, b"mem", Link::Mem);
-    or_link(s, at, f, b"sub", Link::Sub)
+    let w = which(s, at, b"eq mem sub ");
+    let n = w.number;
+    let link = LINKS[n];
+    LinkAt { end: w.end, link }
 }
 
-// What was found, or the word w.
-fn or_arrow(s: &[u8], at: usize, found: ArrowAt, w: &[u8], arrow: Arrow) -> ArrowAt
-    ensures { λ r. ⌜ r ≡ orArrow (now (s .entry)) found (strip (now (w .entry)) (drop at (now (s .entry)))) arrow ⌝ }
-{
-    if found.end <= s.len() {
-        return found;
-    }
-    let end = word(s, at, w);
-    ArrowAt { end, arrow }
-}
+const ARROWS: [Arrow; 7] = [
+    Arrow::Sv,
+    Arrow::Si,
+    Arrow::Mv,
+    Arrow::Mi,
+    Arrow::St,
+    Arrow::Mt,
+    Arrow::Mt,
+];
 
 pub fn arrow(s: &[u8], at: usize) -> ArrowAt
     ensures { λ r. ⌜ r ≡ arrowAt (now (s .entry)) (readArrowWord (drop at (now (s .entry)))) ⌝ }
 {
-    let end = word(s, at, b"sv");
-    let f = ArrowAt {
-        end,
-        arrow: Arrow::Sv,
-    };
-    let f = or_arrow(s, at, f, b"si", Arrow::Si);
-    let f = or_arrow(s, at, f, b"mv", Arrow::Mv);
-    let f = or_arrow(s, at, f, b"mi", Arrow::Mi);
-    let f = or_arrow(s, at, f, b"st", Arrow::St);
-    or_arrow(s, at, f, b"mt", Arrow::Mt)
+    let w = which(s, at, b"sv si mv mi st mt ");
+    let n = w.number;
+    let arrow = ARROWS[n];
+    ArrowAt { end: w.end, arrow }
 }
 
-// What was found, or the word w.
-fn or_rule(s: &[u8], at: usize, found: RuleAt, w: &[u8], rule: Rule) -> RuleAt
-    ensures { λ r. ⌜ r ≡ orRule (now (s .entry)) found (strip (now (w .entry)) (drop at (now (s .entry)))) rule ⌝ }
-{
-    if found.end <= s.len() {
-        return found;
-    }
-    let end = word(s, at, w);
-    RuleAt { end, rule }
-}
+const RULES: [Rule; 13] = [
+    Rule::Refl,
+    Rule::Res,
+    Rule::Fac,
+    Rule::Par,
+    Rule::Acy,
+    Rule::Tra,
+    Rule::Inc,
+    Rule::Inh,
+    Rule::Inp,
+    Rule::Out,
+    Rule::Sca,
+    Rule::Eli,
+    Rule::Eli,
+];
 
 pub fn rule(s: &[u8], at: usize) -> RuleAt
     ensures { λ r. ⌜ r ≡ ruleAt (now (s .entry)) (readRule (drop at (now (s .entry)))) ⌝ }
 {
-    let end = word(s, at, b"refl");
-    let f = RuleAt {
-        end,
-        rule: Rule::Refl,
-    };
-    let f = or_rule(s, at, f, b"res", Rule::Res);
-    let f = or_rule(s, at, f, b"fac", Rule::Fac);
-    let f = or_rule(s, at, f, b"par", Rule::Par);
-    let f = or_rule(s, at, f, b"acy", Rule::Acy);
-    let f = or_rule(s, at, f, b"tra", Rule::Tra);
-    let f = or_rule(s, at, f, b"inc", Rule::Inc);
-    let f = or_rule(s, at, f, b"inh", Rule::Inh);
-    let f = or_rule(s, at, f, b"inp", Rule::Inp);
-    let f = or_rule(s, at, f, b"out", Rule::Out);
-    let f = or_rule(s, at, f, b"sca", Rule::Sca);
-    or_rule(s, at, f, b"eli", Rule::Eli)
+    let w = which(s, at, b"refl res fac par acy tra inc inh inp out sca eli ");
+    let n = w.number;
+    let rule = RULES[n];
+    RuleAt { end: w.end, rule }
 }
+
+const SIGNS: [Sign; 3] = [Sign::Positive, Sign::Negative, Sign::Negative];
 
 pub fn sign(s: &[u8], at: usize) -> SignAt
     ensures { λ r. ⌜ r ≡ signAt (now (s .entry)) (readSign (drop at (now (s .entry)))) ⌝ }
 {
-    let p = word(s, at, b"+");
-    if p <= s.len() {
-        return SignAt {
-            end: p,
-            sign: Sign::Positive,
-        };
-    }
-    let end = word(s, at, b"-");
-    SignAt {
-        end,
-        sign: Sign::Negative,
-    }
+    let w = which(s, at, b"+ - ");
+    let n = w.number;
+    let sign = SIGNS[n];
+    SignAt { end: w.end, sign }
 }

@@ -1,19 +1,21 @@
 use denote.Ref.{now}
 use lib.ListN.{drop}
-use mathlib.Core.List.{[], _∷_}
 use mathlib.Core.Path.{refl}
-use Rattle.logic.specs.declared.Arrow.the-variants.{Sv, Si, Mv, Mi, St, Mt}
-use Rattle.scan.specs.Tables.{readArrowWord}
-use Rattle.scan.proofs.Choices.{only-arrow, or-arrow}
+use native.Mathlib.Omega.{arith}
+use Rattle.logic.specs.declared.Arrow.the-variants.{Sv, Mt}
+use Rattle.text.specs.Words.{arrowWord, arrows}
+use Rattle.scan.specs.Tables.{readArrowWord, wordAt}
+use Rattle.scan.proofs.Choices.{table-law}
 use Rattle.scan.proofs.tables.arrow.Statement.{statement}
 use Rattle.scan.proofs.tables.arrow.Tie as tie
 
+array-copy-out-arrow : tie.Need-array-copy-out-arrow
+unfolding wordAt
+array-copy-out-arrow c = let a = c .before .before .before .args in let s = now (a .s) in omega (arith, table-law arrowWord Mt Sv s (drop (a .at) s) arrows (c .which .ensures) .0)
+
 returns : tie.Need-returns
-unfolding readArrowWord
-returns c = let a = (c .before .before .before .before .before .before .before .before .before .before .before .before .before .args) in let s = now (a .s) in let bs = drop (a .at) s in or-arrow s bs (Sv ∷ Si ∷ Mv ∷ Mi ∷ St ∷ []) St Mt (or-arrow s bs (Sv ∷ Si ∷ Mv ∷ Mi ∷ []) Mi St (or-arrow s bs (Sv ∷ Si ∷ Mv ∷ []) Mv Mi (or-arrow s bs (Sv ∷ Si ∷ []) Si Mv (or-arrow s bs (Sv ∷ []) Sv Si (only-arrow s bs Sv ((c .before .before .before .before .before .before .before .before .before .before .word) .ensures)) ((c .before .before .before .before .before .before .before .before .or-arrow) .ensures)) ((c .before .before .before .before .before .before .or-arrow2) .ensures)) ((c .before .before .before .before .or-arrow3) .ensures)) ((c .before .before .or-arrow4) .ensures)) ((c .or-arrow5) .ensures)
+unfolding wordAt readArrowWord
+returns c = let a = c .before .before .before .before .args in let s = now (a .s) in let t = table-law arrowWord Mt Sv s (drop (a .at) s) arrows (c .before .which .ensures) in λ i. record { end = t .1 i; arrow = t .2 i }
 
 pub arrow-spec : {M : Type 1} → statement M
-arrow-spec =
-    tie.close (tie.spec
-    (λ c. refl) (λ c κs. tt) (λ c. refl) (λ c κs. tt) (λ c. refl) (λ c κs. tt) (λ c. refl) (λ c κs. tt) (λ c. refl)
-    (λ c κs. tt) (λ c. refl) (λ c κs. tt) returns)
+arrow-spec = tie.close (tie.spec (λ c. refl) (λ c κs. tt) array-copy-out-arrow returns)

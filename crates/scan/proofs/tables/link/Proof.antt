@@ -1,18 +1,21 @@
 use denote.Ref.{now}
 use lib.ListN.{drop}
-use mathlib.Core.List.{[], _∷_}
 use mathlib.Core.Path.{refl}
-use Rattle.logic.specs.declared.Link.the-variants.{Eq, Mem, Sub}
-use Rattle.scan.specs.Tables.{readLinkWord}
-use Rattle.scan.proofs.Choices.{only-link, or-link}
+use native.Mathlib.Omega.{arith}
+use Rattle.logic.specs.declared.Link.the-variants.{Eq, Sub}
+use Rattle.text.specs.Words.{linkWord, links}
+use Rattle.scan.specs.Tables.{readLinkWord, wordAt}
+use Rattle.scan.proofs.Choices.{table-law}
 use Rattle.scan.proofs.tables.link.Statement.{statement}
 use Rattle.scan.proofs.tables.link.Tie as tie
 
+array-copy-out-link : tie.Need-array-copy-out-link
+unfolding wordAt
+array-copy-out-link c = let a = c .before .before .before .args in let s = now (a .s) in omega (arith, table-law linkWord Sub Eq s (drop (a .at) s) links (c .which .ensures) .0)
+
 returns : tie.Need-returns
-unfolding readLinkWord
-returns c = let a = (c .before .before .before .before .before .before .before .args) in let s = now (a .s) in let bs = drop (a .at) s in or-link s bs (Eq ∷ Mem ∷ []) Mem Sub (or-link s bs (Eq ∷ []) Eq Mem (only-link s bs Eq ((c .before .before .before .before .word) .ensures)) ((c .before .before .or-link) .ensures)) ((c .or-link2) .ensures)
+unfolding wordAt readLinkWord
+returns c = let a = c .before .before .before .before .args in let s = now (a .s) in let t = table-law linkWord Sub Eq s (drop (a .at) s) links (c .before .which .ensures) in λ i. record { end = t .1 i; link = t .2 i }
 
 pub link-spec : {M : Type 1} → statement M
-link-spec =
-    tie.close (tie.spec
-    (λ c. refl) (λ c κs. tt) (λ c. refl) (λ c κs. tt) (λ c. refl) (λ c κs. tt) returns)
+link-spec = tie.close (tie.spec (λ c. refl) (λ c κs. tt) array-copy-out-link returns)

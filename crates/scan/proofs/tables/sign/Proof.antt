@@ -1,16 +1,22 @@
 use denote.Ref.{now}
+use lib.ListN.{drop}
 use mathlib.Core.Path.{refl}
-use Rattle.scan.proofs.Choices.{sign-first, sign-second}
+use native.Mathlib.Omega.{arith}
+use Rattle.logic.specs.declared.Sign.the-variants.{Positive, Negative}
+use Rattle.text.specs.Read.{readSign}
+use Rattle.text.specs.Words.{signWord, signs}
+use Rattle.scan.specs.Tables.{wordAt}
+use Rattle.scan.proofs.Choices.{table-law}
 use Rattle.scan.proofs.tables.sign.Statement.{statement}
 use Rattle.scan.proofs.tables.sign.Tie as tie
 
-returns : tie.Need-returns
-returns c = let a = (c .before .before .before .before .args) in sign-first (now (a .s)) (a .at) ((c .before .word) .ensures) ((c .if1) .taken)
+array-copy-out-sign : tie.Need-array-copy-out-sign
+unfolding wordAt
+array-copy-out-sign c = let a = c .before .before .before .args in let s = now (a .s) in omega (arith, table-law signWord Negative Positive s (drop (a .at) s) signs (c .which .ensures) .0)
 
-returns-2 : tie.Need-returns-2
-returns-2 c = let a = (c .before .before .before .before .before .before .args) in sign-second (now (a .s)) (a .at) ((c .before .before .before .word) .ensures) ((c .before .before .if1) .left) ((c .word2) .ensures)
+returns : tie.Need-returns
+unfolding wordAt readSign
+returns c = let a = c .before .before .before .before .args in let s = now (a .s) in let t = table-law signWord Negative Positive s (drop (a .at) s) signs (c .before .which .ensures) in λ i. record { end = t .1 i; sign = t .2 i }
 
 pub sign-spec : {M : Type 1} → statement M
-sign-spec =
-    tie.close (tie.spec
-    (λ c. refl) (λ c κs. tt) returns (λ c. refl) (λ c κs. tt) returns-2)
+sign-spec = tie.close (tie.spec (λ c. refl) (λ c κs. tt) array-copy-out-sign returns)
