@@ -1,11 +1,8 @@
 // Fixed words of the text form.
-ghost use Prim.Native.Nat.{ℕ, _+_, _≤_};
 ghost use mathlib.Core.Path.{_≡_};
-ghost use mathlib.Core.Bool.{true, false};
-ghost use mathlib.Core.List.{[], _∷_};
-ghost use lib.ListN.{length, drop};
-ghost use Rattle.text.specs.Read.{bad, strip};
-ghost use Rattle.text.specs.Places.{endOf};
+ghost use lib.ListN.{drop};
+ghost use Rattle.text.specs.Read.{strip};
+ghost use Rattle.text.specs.Places.{endOf, closesAt, letterAt};
 
 // The place after the word w, if it stands at the place `at`.
 pub fn word(s: &[u8], at: usize, w: &[u8]) -> usize
@@ -32,7 +29,7 @@ pub fn word(s: &[u8], at: usize, w: &[u8]) -> usize
 
 // Whether a closing bracket stands at the place.
 pub fn closes(s: &[u8], at: usize) -> bool
-    ensures { λ r. ⌜ (r ≡ true → (at + 1 ≤ length (now (s .entry))) × (at + 1 ≡ endOf (now (s .entry)) (strip (41 ∷ []) (drop at (now (s .entry)))))) × (r ≡ false → length (now (s .entry)) + 1 ≡ endOf (now (s .entry)) (strip (41 ∷ []) (drop at (now (s .entry))))) ⌝ }
+    ensures { λ r. ⌜ r ≡ closesAt (now (s .entry)) at ⌝ }
 {
     if at >= s.len() {
         return false;
@@ -45,7 +42,7 @@ pub fn closes(s: &[u8], at: usize) -> bool
 
 // The byte between an opening bracket and a space, or 0.
 pub fn letter(s: &[u8], at: usize) -> u8
-    ensures { λ r. ⌜ ((b : ℕ) → (b ≡ 0 → ⊥) → (r ≡ b → (at + 3 ≤ length (now (s .entry))) × (at + 3 ≡ endOf (now (s .entry)) (strip (40 ∷ b ∷ 32 ∷ []) (drop at (now (s .entry)))))) × ((r ≡ b → ⊥) → strip (40 ∷ b ∷ 32 ∷ []) (drop at (now (s .entry))) ≡ bad)) ⌝ }
+    ensures { λ r. ⌜ r ≡ letterAt (now (s .entry)) at ⌝ }
 {
     let n = s.len();
     if n < 3 {

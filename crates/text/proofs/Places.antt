@@ -1,16 +1,16 @@
 -- Reading at a place of a text.
 use Prim.Native.Nat.{ℕ, _+_, _≤_, _<_}
-use mathlib.Core.Path.{_≡_, refl, sym, _∙_, ap}
-use mathlib.Core.Bool.{Bool, true, false, cond}
+use mathlib.Core.Path.{_≡_, refl, sym, _∙_, ap, subst}
+use mathlib.Core.Bool.{Bool, true, false, cond, _&&_}
 use mathlib.Core.List.{List, [], _∷_}
 use native.Mathlib.Omega.{arith}
 use native.Mathlib.Numerals.{add-one}
 use lib.ListN.{length, getD, drop, length-drop, drop-of-length-le}
 use lib.Seq.{drop-cons}
-use lib.Dec.{eqb}
-use borrow.Author.Tests.{eq-eqb, ne-eqb}
+use lib.Dec.{T, eqb, ltb, leb}
+use borrow.Author.Tests.{eq-eqb, ne-eqb, eqb-true, eqb-false, ltb-true, ltb-false, leb-true, leb-false}
 use Rattle.text.specs.Read.{Parsed, bad, got, strip}
-use Rattle.text.specs.Places.{endOf}
+use Rattle.text.specs.Places.{endOf, closesAt, letterAt}
 
 -- What stands at a place within the text, and past its end.
 pub at-byte : (s : List ℕ) (j : ℕ) → j < length s → drop j s ≡ getD s j 0 ∷ drop (j + 1) s
@@ -76,7 +76,7 @@ strip-short (w ∷ ws) (b ∷ bs) h = rw (strip-short ws bs (omega arith)) (cond
 
 -- An opening bracket, the byte b and a space.
 module _ (s : List ℕ) (at b : ℕ) where
-  pub letter-short : length s < at + 3 → strip (40 ∷ b ∷ 32 ∷ []) (drop at s) ≡ bad
+  letter-short : length s < at + 3 → strip (40 ∷ b ∷ 32 ∷ []) (drop at s) ≡ bad
   letter-short h = strip-short (40 ∷ b ∷ 32 ∷ []) (drop at s) (omega (arith, length-drop at s))
 
   module _ (h : at + 3 ≤ length s) where
@@ -89,14 +89,41 @@ module _ (s : List ℕ) (at b : ℕ) where
         let third : drop (at + 2) s ≡ getD s (at + 2) 0 ∷ drop (at + 3) s = at-byte s (at + 2) (omega arith) ∙ ap (λ k. getD s (at + 2) 0 ∷ drop k s) three in
         rw (at-byte s at (omega arith), second, third)
 
-    pub letter-front : (getD s at 0 ≡ 40 → ⊥) → strip (40 ∷ b ∷ 32 ∷ []) (drop at s) ≡ bad
+    letter-front : (getD s at 0 ≡ 40 → ⊥) → strip (40 ∷ b ∷ 32 ∷ []) (drop at s) ≡ bad
     letter-front n = three ∙ rw (ne-eqb 40 (getD s at 0) (λ q. n (sym q)))
 
-    pub letter-back : (getD s (at + 2) 0 ≡ 32 → ⊥) → strip (40 ∷ b ∷ 32 ∷ []) (drop at s) ≡ bad
+    letter-back : (getD s (at + 2) 0 ≡ 32 → ⊥) → strip (40 ∷ b ∷ 32 ∷ []) (drop at s) ≡ bad
     letter-back n = three ∙ rw (ne-eqb 32 (getD s (at + 2) 0) (λ q. n (sym q)), cond-bad {A = Unit {0}} (eqb b (getD s (at + 1) 0))) (cond-bad (eqb 40 (getD s at 0)))
 
-    pub letter-here : getD s at 0 ≡ 40 → getD s (at + 2) 0 ≡ 32 → getD s (at + 1) 0 ≡ b → at + 3 ≡ endOf s (strip (40 ∷ b ∷ 32 ∷ []) (drop at s))
+    letter-here : getD s at 0 ≡ 40 → getD s (at + 2) 0 ≡ 32 → getD s (at + 1) 0 ≡ b → at + 3 ≡ endOf s (strip (40 ∷ b ∷ 32 ∷ []) (drop at s))
     letter-here f g e = end-at s {a = tt} h (three ∙ rw (eq-eqb 40 (getD s at 0) (sym f), eq-eqb 32 (getD s (at + 2) 0) (sym g), eq-eqb b (getD s (at + 1) 0) (sym e)))
 
-    pub letter-other : (getD s (at + 1) 0 ≡ b → ⊥) → strip (40 ∷ b ∷ 32 ∷ []) (drop at s) ≡ bad
+    letter-other : (getD s (at + 1) 0 ≡ b → ⊥) → strip (40 ∷ b ∷ 32 ∷ []) (drop at s) ≡ bad
     letter-other n = three ∙ rw (ne-eqb b (getD s (at + 1) 0) (λ q. n (sym q))) (cond-bad (eqb 40 (getD s at 0)))
+
+-- What the test for a closing bracket tells, and the byte in front of a space.
+module _ (s : List ℕ) (at : ℕ) where
+  abbrev Closed : Bool → Type 0
+  Closed r = (r ≡ true → (at + 1 ≤ length s) × (at + 1 ≡ endOf s (strip (41 ∷ []) (drop at s)))) × (r ≡ false → length s + 1 ≡ endOf s (strip (41 ∷ []) (drop at s)))
+
+  pub closes-tells : {r : Bool} → r ≡ closesAt s at → Closed r
+  unfolding closesAt
+  closes-tells h = rw h (go (ltb at (length s)) (eqb (getD s at 0) 41) refl refl)
+    where
+      go : (t u : Bool) → ltb at (length s) ≡ t → eqb (getD s at 0) 41 ≡ u → Closed (t && u)
+      go false u p q = (λ e. absurd (subst T (sym e) tt), λ _. byte-past s 41 at (ltb-false _ _ p))
+      go true false p q = (λ e. absurd (subst T (sym e) tt), λ _. byte-other s 41 at (ltb-true _ _ p) (eqb-false _ _ q))
+      go true true p q = (λ _. (omega (arith, ltb-true at (length s) p), byte-here s 41 at (ltb-true _ _ p) (eqb-true _ _ q)), λ e. absurd (subst T e tt))
+
+  abbrev Headed : ℕ → ℕ → Type 0
+  Headed b r = (r ≡ b → (at + 3 ≤ length s) × (at + 3 ≡ endOf s (strip (40 ∷ b ∷ 32 ∷ []) (drop at s)))) × ((r ≡ b → ⊥) → strip (40 ∷ b ∷ 32 ∷ []) (drop at s) ≡ bad)
+
+  pub letter-tells : {r : ℕ} → r ≡ letterAt s at → (b : ℕ) → (b ≡ 0 → ⊥) → Headed b r
+  unfolding letterAt
+  letter-tells h b z = rw h (go (leb (at + 3) (length s)) (eqb (getD s at 0) 40) (eqb (getD s (at + 2) 0) 32) refl refl refl)
+    where
+      go : (t u v : Bool) → leb (at + 3) (length s) ≡ t → eqb (getD s at 0) 40 ≡ u → eqb (getD s (at + 2) 0) 32 ≡ v → Headed b (cond (t && (u && v)) (getD s (at + 1) 0) 0)
+      go false u v p q o = (λ e. absurd (z (sym e)), λ _. letter-short s at b (leb-false _ _ p))
+      go true false v p q o = (λ e. absurd (z (sym e)), λ _. letter-front s at b (leb-true _ _ p) (eqb-false _ _ q))
+      go true true false p q o = (λ e. absurd (z (sym e)), λ _. letter-back s at b (leb-true _ _ p) (eqb-false _ _ o))
+      go true true true p q o = (λ e. (leb-true _ _ p, letter-here s at b (leb-true _ _ p) (eqb-true _ _ q) (eqb-true _ _ o) e), λ n. letter-other s at b (leb-true _ _ p) n)

@@ -1,7 +1,9 @@
 -- Places in a text: where reading stops, and what was read.
 use Prim.Native.Nat.{ℕ, _+_, _-_}
+use mathlib.Core.Bool.{Bool, cond, _&&_}
 use mathlib.Core.List.{List}
-use lib.ListN.{length}
+use lib.Dec.{eqb, ltb, leb}
+use lib.ListN.{length, getD}
 use Rattle.text.specs.Read.{Parsed, bad, got}
 
 -- The place where the bytes after the value begin; past the end of s if nothing was read.
@@ -13,3 +15,11 @@ endOf s (got a rest) = length s - length rest
 abbrev pub readOr : {A B : Type 0} → B → (A → B) → Parsed A → B
 readOr none f bad = none
 readOr none f (got a rest) = f a
+
+-- Whether a closing bracket stands at the place.
+unfoldable pub closesAt : List ℕ → ℕ → Bool
+closesAt s at = ltb at (length s) && eqb (getD s at 0) 41
+
+-- The byte between an opening bracket and a space at the place, or 0.
+unfoldable pub letterAt : List ℕ → ℕ → ℕ
+letterAt s at = cond (leb (at + 3) (length s) && (eqb (getD s at 0) 40 && eqb (getD s (at + 2) 0) 32)) (getD s (at + 1) 0) 0
