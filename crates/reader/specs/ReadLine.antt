@@ -10,7 +10,6 @@ use Rattle.lines.specs.declared.forms.LineAt.{LineAt}
 use Rattle.reader.specs.declared.states.State.{State}
 use Rattle.reader.specs.declared.states.Seen.{Seen}
 use Rattle.reader.specs.declared.states.Added.{Added}
-use Rattle.reader.specs.declared.states.Read.{Read}
 use Rattle.text.specs.Read.{readLine}
 use Rattle.lines.specs.LineAt.{formNumber, lineOf}
 use Rattle.reader.specs.State.{hasConstant}
@@ -93,10 +92,3 @@ hasRoom st a = cond (a .symbol) (ltb (st .symbols) 256) (ltb (st .clauses) 1024)
 
 unfoldable pub addedTo : State → Added → State
 addedTo st a = cond (hasRoom st a) (withAdded st a) st
-
-unfoldable pub readOn : State → ℕ → Seen → Read
-readOn st start s = record { failure = s .failure; line = s .line; state = cond (eqb (s .failure) 0) (withAdded st (addedBy start (s .line))) st }
-
--- A line's bytes, which begin at the place `start` of the text.
-unfoldable pub readLineAt : State → List ℕ → ℕ → Read
-readLineAt st bytes start = readOn st start (seenAt (heldTable st) (st .symbols) (st .clauses) (st .inputs) bytes)

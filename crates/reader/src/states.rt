@@ -7,9 +7,8 @@ use lines::forms::form_number;
 use lines::forms::line;
 use lines::summaries::larger;
 ghost use mathlib.Core.Path.{_≡_};
-ghost use Prim.Native.Nat.{_+_, _<_, _≤_};
 ghost use Rattle.reader.specs.State.{hasConstant};
-ghost use Rattle.reader.specs.ReadLine.{freshState, lineFits, clauseFailure, failureOf, seenAt, placed, byteOf, countedIn, addedBy, withSymbol, withClause, addedTo, readLineAt};
+ghost use Rattle.reader.specs.ReadLine.{freshState, clauseFailure, failureOf, seenAt, placed, byteOf, addedBy, addedTo};
 
 // The numbers of the checks.
 const FORM: usize = 2;
@@ -22,13 +21,34 @@ const LIMIT: usize = 5;
 
 const SYMBOL: usize = 6;
 
+// Symbols of a text.
+const SYMBOLS: usize = 256;
+
+// Terms that a symbol takes: K of a sym line.
+const PARTS: usize = 8;
+
+// Clauses of a text: one a line.
+const CLAUSES: usize = 1024;
+
+// Method arguments of an atom.
+const ARGUMENTS: usize = 8;
+
+// Literals of a clause, variables, and terms of a list: as many of each.
+const ITEMS: usize = 32;
+
+// Bytes of a text.
+const BYTES: usize = 65535;
+
+// The largest number of a byte.
+const BYTE: usize = 255;
+
 // Of each symbol its argument count; of each clause its place, its number of literals and its width.
 pub struct State {
-    pub counts: [u8; 256],
+    pub counts: [u8; SYMBOLS],
     pub symbols: usize,
-    pub starts: [u16; 1024],
-    pub literals: [u8; 1024],
-    pub widths: [u8; 1024],
+    pub starts: [u16; CLAUSES],
+    pub literals: [u8; CLAUSES],
+    pub widths: [u8; CLAUSES],
     pub clauses: usize,
     pub inputs: usize,
 }
@@ -49,20 +69,13 @@ pub struct Added {
     pub width: u8,
 }
 
-// What reading a line tells, with the state after it.
-pub struct Read {
-    pub failure: usize,
-    pub line: LineAt,
-    pub state: State,
-}
-
 pub fn fresh() -> State
     ensures { λ r. ⌜ r ≡ freshState ⌝ }
 {
-    let counts = [0u8; 256];
-    let starts = [0u16; 1024];
-    let literals = [0u8; 1024];
-    let widths = [0u8; 1024];
+    let counts = [0u8; SYMBOLS];
+    let starts = [0u16; CLAUSES];
+    let literals = [0u8; CLAUSES];
+    let widths = [0u8; CLAUSES];
     State {
         counts,
         symbols: 0,
@@ -88,17 +101,6 @@ pub fn has_constant(table: &[u8]) -> bool
     false
 }
 
-// The limits on literals, variables, entries of a list and method arguments.
-fn fits(l: LineAt) -> bool
-    ensures { λ r. ⌜ r ≡ lineFits l ⌝ }
-{
-    let m = l.measure;
-    if larger(larger(m.count, m.width), larger(l.firsts, l.seconds)) > 32 {
-        return false;
-    }
-    m.arguments <= 8
-}
-
 // Checks 4 to 6 of a line with a clause.
 fn clause_failure(clauses: usize, ready: bool, l: LineAt) -> usize
     ensures { λ r. ⌜ r ≡ clauseFailure clauses ready l ⌝ }
@@ -106,13 +108,16 @@ fn clause_failure(clauses: usize, ready: bool, l: LineAt) -> usize
     if !ready {
         return CONSTANT;
     }
-    if clauses >= 1024 {
-        return LIMIT;
-    }
-    if !fits(l) {
+    if clauses >= CLAUSES {
         return LIMIT;
     }
     let m = l.measure;
+    if larger(larger(m.count, m.width), larger(l.firsts, l.seconds)) > ITEMS {
+        return LIMIT;
+    }
+    if m.arguments > ARGUMENTS {
+        return LIMIT;
+    }
     if m.declared { 0 } else { SYMBOL }
 }
 
@@ -127,10 +132,10 @@ fn failure(symbols: usize, clauses: usize, inputs: usize, ready: bool, l: LineAt
             if clauses != 0 {
                 return ORDER;
             }
-            if symbols >= 256 {
+            if symbols >= SYMBOLS {
                 return LIMIT;
             }
-            if l.k <= 8 { 0 } else { LIMIT }
+            if l.k <= PARTS { 0 } else { LIMIT }
         }
         Form::Input => {
             if clauses != inputs {
@@ -156,10 +161,10 @@ pub fn see(table: &[u8], symbols: usize, clauses: usize, inputs: usize, text: &[
 fn place(start: usize, at: usize) -> u16
     ensures { λ r. ⌜ r ≡ placed start at ⌝ }
 {
-    if start > 65535 {
+    if start > BYTES {
         return 0;
     }
-    if at > 65535 - start {
+    if at > BYTES - start {
         return 0;
     }
     (start + at) as u16
@@ -169,20 +174,10 @@ fn place(start: usize, at: usize) -> u16
 fn byte(n: usize) -> u8
     ensures { λ r. ⌜ r ≡ byteOf n ⌝ }
 {
-    if n > 255 {
+    if n > BYTE {
         return 0;
     }
     n as u8
-}
-
-// The number of in lines, within 1,024.
-pub fn counted(inputs: usize, input: bool) -> usize
-    ensures { λ r. ⌜ r ≡ countedIn inputs input ⌝ }
-{
-    if !input {
-        return inputs;
-    }
-    if inputs < 1024 { inputs + 1 } else { inputs }
 }
 
 pub fn adds(start: usize, l: LineAt) -> Added
@@ -205,81 +200,35 @@ pub fn adds(start: usize, l: LineAt) -> Added
     }
 }
 
-fn add_symbol(state: State, k: u8) -> State
-    requires { ⌜ state .symbols < 256 ⌝ }
-    ensures { λ r. ⌜ r ≡ withSymbol state k ⌝ }
-{
-    let mut next = state;
-    let n = next.symbols;
-    next.counts[n] = k;
-    next.symbols = n + 1;
-    next
-}
-
-fn add_clause(state: State, at: u16, literals: u8, width: u8, inputs: usize) -> State
-    requires { ⌜ state .clauses < 1024 ⌝ }
-    ensures { λ r. ⌜ r ≡ withClause state at literals width inputs ⌝ }
-{
-    let mut next = state;
-    let n = next.clauses;
-    next.starts[n] = at;
-    next.literals[n] = literals;
-    next.widths[n] = width;
-    next.clauses = n + 1;
-    next.inputs = inputs;
-    next
-}
-
-// The state after a line that passes, with what the line adds.
+// The state after a line that passes, with what the line adds; as it was, where there is no room.
 pub fn after(state: State, a: Added) -> State
     ensures { λ r. ⌜ r ≡ addedTo state a ⌝ }
 {
+    let mut next = state;
     if a.symbol {
-        if state.symbols >= 256 {
-            return state;
+        let n = next.symbols;
+        if n >= SYMBOLS {
+            return next;
         }
-        return add_symbol(state, a.k);
+        next.counts[n] = a.k;
+        next.symbols = n + 1;
+        return next;
     }
-    if state.clauses >= 1024 {
-        return state;
+    let n = next.clauses;
+    if n >= CLAUSES {
+        return next;
     }
-    let inputs = counted(state.inputs, a.input);
-    add_clause(state, a.start, a.literals, a.width, inputs)
-}
-
-// The next line, without its line end, which begins at the place `start` of the text.
-pub fn read_line(state: State, text: &[u8], start: usize) -> Read
-    ensures { λ r. ⌜ r ≡ readLineAt state (now (text .entry)) start ⌝ }
-{
-    let counts = state.counts;
-    let symbols = state.symbols;
-    let all = &counts[..];
-    let n = all.len();
-    let known = if symbols < n { symbols } else { n };
-    let seen = see(&all[..known], symbols, state.clauses, state.inputs, text);
-    let failure = seen.failure;
-    let l = seen.line;
-    if failure != 0 {
-        return Read {
-            failure,
-            line: l,
-            state,
-        };
+    next.starts[n] = a.start;
+    next.literals[n] = a.literals;
+    next.widths[n] = a.width;
+    next.clauses = n + 1;
+    if !a.input {
+        return next;
     }
-    let a = adds(start, l);
-    if a.symbol {
-        let next = add_symbol(state, a.k);
-        return Read {
-            failure,
-            line: l,
-            state: next,
-        };
+    let inputs = next.inputs;
+    if inputs >= CLAUSES {
+        return next;
     }
-    let inputs = counted(state.inputs, a.input);
-    let next = add_clause(state, a.start, a.literals, a.width, inputs);
-    Read {
-        failure,
-        line: l,
-        state: next,
-    }
+    next.inputs = inputs + 1;
+    next
 }

@@ -1,26 +1,37 @@
-use native.Mathlib.Omega.{arith}
-use borrow.Author.Tests.{lt-ltb, le-ltb}
-use Rattle.reader.specs.ReadLine.{addedTo, hasRoom, withAdded}
+use borrow.Author.Needs.{needs}
+use borrow.Author.Tests.{lt-ltb, le-ltb, not-true, not-false}
+use mathlib.Core.Bool.{true, false}
+use mathlib.Core.Path.{_≡_}
+use Rattle.reader.specs.ReadLine.{addedTo, hasRoom, withAdded, countedIn}
 use Rattle.reader.proofs.states.after.Statement.{statement}
 use Rattle.reader.proofs.states.after.Tie as tie
 
 returns : tie.Need-returns
-unfolding addedTo hasRoom withAdded
-returns c = rw (c .before .before .if1 .taken, le-ltb _ _ (c .if2 .taken))
+unfolding addedTo hasRoom
+returns c = rw (c .before .if1 .taken, le-ltb _ _ (c .if2 .taken))
 
 returns-2 : tie.Need-returns-2
 unfolding addedTo hasRoom withAdded
-returns-2 c = rw (c .before .before .before .if1 .taken, lt-ltb _ _ (c .before .if2 .left), c .add-symbol .ensures)
+returns-2 c = rw (c .before .if1 .taken, lt-ltb _ _ (c .if2 .left))
 
 returns-3 : tie.Need-returns-3
-unfolding addedTo hasRoom withAdded
-returns-3 c = rw (c .before .before .if1 .left, le-ltb _ _ (c .if3 .taken))
+unfolding addedTo hasRoom
+returns-3 c = rw (c .before .if1 .left, le-ltb _ _ (c .if3 .taken))
 
 returns-4 : tie.Need-returns-4
-unfolding addedTo hasRoom withAdded
-returns-4 c = rw (c .before .before .before .before .if1 .left, lt-ltb _ _ (c .before .before .if3 .left), c .add-clause .ensures, c .before .counted .ensures)
+unfolding addedTo hasRoom withAdded countedIn
+returns-4 c = let e : c .before .before .before .before .args .a .input ≡ false = not-true _ (c .if4 .taken) in rw (c .before .before .before .if1 .left, lt-ltb _ _ (c .before .before .if3 .left), e)
+
+returns-5 : tie.Need-returns-5
+unfolding addedTo hasRoom withAdded countedIn
+returns-5 c = let e : c .before .before .before .before .before .args .a .input ≡ true = not-false _ (c .before .if4 .left) in rw (c .before .before .before .before .if1 .left, lt-ltb _ _ (c .before .before .before .if3 .left), e, le-ltb _ _ (c .if5 .taken))
+
+returns-6 : tie.Need-returns-6
+unfolding addedTo hasRoom withAdded countedIn
+returns-6 c = let e : c .before .before .before .before .before .args .a .input ≡ true = not-false _ (c .before .if4 .left) in rw (c .before .before .before .before .if1 .left, lt-ltb _ _ (c .before .before .before .if3 .left), e, lt-ltb _ _ (c .if5 .left))
 
 pub after-spec : {M : Type 1} → statement M
 after-spec =
     tie.close (tie.spec
-    returns (λ c κs. omega arith) returns-2 returns-3 (λ c κs. tt) (λ c κs. omega arith) returns-4)
+    returns (λ c. search needs) (λ c. search needs) returns-2 returns-3 (λ c. search needs) (λ c. search needs)
+    (λ c. search needs) (λ c. search needs) (λ c. search needs) returns-4 returns-5 (λ c. search needs) returns-6)
