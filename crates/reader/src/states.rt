@@ -6,6 +6,7 @@ use lines::forms::SYM;
 use lines::forms::form_number;
 use lines::forms::line;
 use lines::summaries::larger;
+use scan::texts::BYTES;
 ghost use mathlib.Core.Path.{_≡_};
 ghost use Rattle.reader.specs.State.{hasConstant};
 ghost use Rattle.reader.specs.ReadLine.{freshState, clauseFailure, failureOf, seenAt, placed, byteOf, addedBy, addedTo};
@@ -35,9 +36,6 @@ const ARGUMENTS: usize = 8;
 
 // Literals of a clause, variables, and terms of a list: as many of each.
 const ITEMS: usize = 32;
-
-// Bytes of a text.
-const BYTES: usize = 65535;
 
 // The largest number of a byte.
 const BYTE: usize = 255;

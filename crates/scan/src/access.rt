@@ -74,15 +74,21 @@ pub fn argument(s: &[u8], at: usize, n: usize) -> usize
     item(s, skip(s, first), n - 1)
 }
 
+// Entries of a list.
+const ENTRIES: usize = 32;
+
+// The places of a list: of each entry, and past the last.
+const PLACES: usize = 33;
+
 // The place and those past each of the next 32 items.
-pub fn starts(s: &[u8], at: usize) -> [usize; 33]
+pub fn starts(s: &[u8], at: usize) -> [usize; PLACES]
     ensures { λ r. ⌜ r ≡ places (now (s .entry)) 33 at ⌝ }
 {
-    let mut found = [s.len() + 1; 33];
+    let mut found = [s.len() + 1; PLACES];
     found[0] = at;
     let mut place = at;
     let mut n = 0;
-    while n < 32 {
+    while n < ENTRIES {
         place = pass(s, place);
         if place > s.len() {
             return found;

@@ -4,8 +4,11 @@ ghost use Rattle.text.specs.Kinds.{kindOf};
 
 pub const DIGIT: u8 = 0;
 
+// The values of a byte.
+const VALUES: usize = 256;
+
 // Digit 0, small letter 1, bracket 2, sign 3, space 4, line end 5, other 6.
-const KINDS: [u8; 256] = [
+const KINDS: [u8; VALUES] = [
     6,
     6,
     6,

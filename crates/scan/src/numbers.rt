@@ -7,6 +7,7 @@ ghost use lib.ListN.{length, drop};
 ghost use Rattle.text.specs.Read.{goesOn, readNumber, readDigits};
 ghost use Rattle.scan.specs.Numbers.{numberAt};
 
+// The largest number N.
 const LARGEST: usize = 65535;
 
 pub struct NumberAt {
@@ -36,7 +37,7 @@ fn digits(s: &[u8], at: usize, first: usize) -> NumberAt
         if kind(s[i]) != DIGIT {
             return NumberAt { end: i, value };
         }
-        let next = value * 10 + (s[i] - 48) as usize;
+        let next = value * 10 + (s[i] - b'0') as usize;
         if !goes_on(value, next) {
             return NumberAt {
                 end: n + 1,
@@ -64,5 +65,5 @@ pub fn number(s: &[u8], at: usize) -> NumberAt
             value: 0,
         };
     }
-    digits(s, at + 1, (s[at] - 48) as usize)
+    digits(s, at + 1, (s[at] - b'0') as usize)
 }

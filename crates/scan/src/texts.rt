@@ -6,6 +6,17 @@ ghost use lib.ListN.{length, drop};
 ghost use Rattle.text.specs.Figures.{office};
 ghost use Rattle.text.specs.Size.{lineLength, lineEndAt, lineCount, tooLarge};
 
+// Bytes of a text.
+pub const BYTES: usize = 65535;
+
+// Lines of a text.
+const LINES: usize = 1024;
+
+const LINE_END: u8 = b'\n';
+
+// Bytes that are looked at together.
+const STRIDE: usize = 16;
+
 // Whether no line end stands among the 16 bytes at `at`.
 fn clear(text: &[u8], at: usize) -> bool
     requires { ⌜ at + 16 ≤ length (now text) ⌝ }
@@ -13,8 +24,8 @@ fn clear(text: &[u8], at: usize) -> bool
 {
     let mut none = true;
     let mut k = 0;
-    while k < 16 {
-        if text[at + k] == 10 {
+    while k < STRIDE {
+        if text[at + k] == LINE_END {
             none = false;
         }
         k += 1;
@@ -29,11 +40,11 @@ fn near(text: &[u8], at: usize) -> usize
 {
     let n = text.len();
     let mut i = at;
-    while n - i >= 16 {
+    while n - i >= STRIDE {
         if !clear(text, i) {
             return i;
         }
-        i += 16;
+        i += STRIDE;
     }
     i
 }
@@ -48,7 +59,7 @@ pub fn line_end(text: &[u8], at: usize) -> usize
     }
     let mut i = near(text, at);
     while i < n {
-        if text[i] == 10 {
+        if text[i] == LINE_END {
             return i;
         }
         i += 1;
@@ -65,7 +76,7 @@ fn lines(text: &[u8]) -> usize
     let mut begun = false;
     let mut i = 0;
     while i < text.len() {
-        if text[i] == 10 {
+        if text[i] == LINE_END {
             count += 1;
             begun = false;
         } else {
@@ -81,10 +92,10 @@ fn lines(text: &[u8]) -> usize
 pub fn too_large(text: &[u8]) -> bool
     ensures { λ r. ⌜ r ≡ tooLarge office (now (text .entry)) ⌝ }
 {
-    if text.len() > 65535 {
+    if text.len() > BYTES {
         return true;
     }
-    lines(text) > 1024
+    lines(text) > LINES
 }
 
 // The part of the text from `start` on.
