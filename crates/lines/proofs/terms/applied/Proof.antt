@@ -2,7 +2,7 @@ use Rattle.lines.proofs.terms.applied.Statement.{statement}
 use Rattle.lines.proofs.terms.applied.Tie as tie
 
 returns : tie.Need-returns
-returns c = cc
+returns c = rw (c .both .ensures, c .before .declared .ensures)
 
 pub applied-spec : {M : Type 1} → statement M
 applied-spec =
