@@ -7,6 +7,7 @@ use crate::summaries::none;
 use crate::summaries::recount;
 use crate::summaries::settle;
 use scan::numbers::number;
+use scan::words::HEAD;
 use scan::words::closes;
 use scan::words::letter;
 ghost use mathlib.Core.Path.{_≡_};
@@ -78,7 +79,7 @@ pub fn terms(s: &[u8], at: usize, depth: usize, table: &[u8]) -> Summary
         let next = i + 1;
         let b = letter(s, next);
         if b == b'f' {
-            let f = number(s, next + 3);
+            let f = number(s, next + HEAD);
             let end = f.end;
             if closes(s, end) {
                 i = end + 1;
@@ -92,7 +93,7 @@ pub fn terms(s: &[u8], at: usize, depth: usize, table: &[u8]) -> Summary
             if b != b'v' {
                 return settle(s, n + 1, none());
             }
-            let t = variable(s, next + 3, table);
+            let t = variable(s, next + HEAD, table);
             i = t.end;
             m = join(m, t.measure);
         }
@@ -110,7 +111,7 @@ pub fn term(s: &[u8], at: usize, depth: usize, table: &[u8]) -> Summary
     }
     let b = letter(s, at);
     if b == b'f' {
-        let f = number(s, at + 3);
+        let f = number(s, at + HEAD);
         let end = f.end;
         if closes(s, end) {
             return settle(s, end + 1, applied(f.value, none(), table));
@@ -121,5 +122,5 @@ pub fn term(s: &[u8], at: usize, depth: usize, table: &[u8]) -> Summary
     if b != b'v' {
         return settle(s, s.len() + 1, none());
     }
-    variable(s, at + 3, table)
+    variable(s, at + HEAD, table)
 }

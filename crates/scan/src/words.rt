@@ -4,6 +4,9 @@ ghost use lib.ListN.{drop};
 ghost use Rattle.text.specs.Read.{strip};
 ghost use Rattle.text.specs.Places.{endOf, closesAt, letterAt};
 
+// The bytes of an opening bracket, a letter and a space.
+pub const HEAD: usize = 3;
+
 // The place after the word w, if it stands at the place `at`.
 pub fn word(s: &[u8], at: usize, w: &[u8]) -> usize
     ensures { λ r. ⌜ r ≡ endOf (now (s .entry)) (strip (now (w .entry)) (drop at (now (s .entry)))) ⌝ }
@@ -45,10 +48,10 @@ pub fn letter(s: &[u8], at: usize) -> u8
     ensures { λ r. ⌜ r ≡ letterAt (now (s .entry)) at ⌝ }
 {
     let n = s.len();
-    if n < 3 {
+    if n < HEAD {
         return 0;
     }
-    if at > n - 3 {
+    if at > n - HEAD {
         return 0;
     }
     if s[at] != b'(' {
