@@ -216,17 +216,16 @@ pub fn after(state: State, a: Added) -> State
     if n >= CLAUSES {
         return next;
     }
+    let mut inputs = next.inputs;
+    if a.input {
+        if inputs < CLAUSES {
+            inputs += 1;
+        }
+    }
     next.starts[n] = a.start;
     next.literals[n] = a.literals;
     next.widths[n] = a.width;
     next.clauses = n + 1;
-    if !a.input {
-        return next;
-    }
-    let inputs = next.inputs;
-    if inputs >= CLAUSES {
-        return next;
-    }
-    next.inputs = inputs + 1;
+    next.inputs = inputs;
     next
 }
