@@ -13,7 +13,7 @@ use Rattle.logic.specs.declared.Arrow.the-variants.{Mt}
 use Rattle.logic.specs.Syntax.{Term, Terms, nil, cons, Result, value, none, mayBeNone, link, obj, method, lit}
 use Rattle.logic.specs.Terms.{count, join, resultTerms, termsOf}
 use Rattle.logic.specs.Each.{any, declares, eachTerms, eachAtom, termsWidth}
-use Rattle.lines.specs.declared.summaries.Measure.{Measure}
+use Rattle.lines.specs.declared.measures.Measure.{Measure}
 use Rattle.lines.specs.declared.summaries.Summary.{Summary}
 use Rattle.scan.specs.declared.tables.LinkAt.{LinkAt}
 use Rattle.scan.specs.declared.tables.ArrowAt.{ArrowAt}

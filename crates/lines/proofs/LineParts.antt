@@ -11,7 +11,7 @@ use Rattle.logic.specs.Syntax.{Clause, Step, Line, input, by}
 use Rattle.logic.specs.Syntax as syntax
 use Rattle.logic.specs.Terms.{count}
 use Rattle.scan.specs.declared.numbers.NumberAt.{NumberAt}
-use Rattle.lines.specs.declared.summaries.Measure.{Measure}
+use Rattle.lines.specs.declared.measures.Measure.{Measure}
 use Rattle.lines.specs.declared.summaries.Summary.{Summary}
 use Rattle.scan.specs.declared.tables.RuleAt.{RuleAt}
 use Rattle.lines.specs.declared.forms.Form.the-variants.{NoForm, Sym, Input, By}

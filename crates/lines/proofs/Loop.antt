@@ -8,7 +8,7 @@ use native.Mathlib.Decide.{decLe}
 use borrow.Author.Tests.{le-leb}
 use lib.Dec.{leb}
 use lib.ListN.{length, drop, length-drop, length-append}
-use Rattle.lines.specs.declared.summaries.Measure.{Measure}
+use Rattle.lines.specs.declared.measures.Measure.{Measure}
 use Rattle.lines.specs.declared.summaries.Summary.{Summary}
 use Rattle.text.specs.Words.{bytes}
 use Rattle.text.specs.Read.{Parsed, bad, got, Reader, after, return, strip, _⇒_, orElse, oneOf, readNext, readItems, readMany}

@@ -9,7 +9,7 @@ use lib.Dec.{T, eqb}
 use lib.ListN.{length, getD}
 use Rattle.logic.specs.Each.{declares}
 use Rattle.scan.specs.declared.numbers.NumberAt.{NumberAt}
-use Rattle.lines.specs.declared.summaries.Measure.{Measure}
+use Rattle.lines.specs.declared.measures.Measure.{Measure}
 use Rattle.lines.specs.declared.summaries.Summary.{Summary}
 use Rattle.text.specs.Form.{formedNumber}
 use Rattle.text.specs.Read.{Parsed, got, readNumber}

@@ -10,7 +10,7 @@ use Rattle.logic.specs.Syntax.{Term, var, app, Terms, nil, cons}
 use Rattle.logic.specs.Terms.{count}
 use Rattle.logic.specs.Each.{eachTerm, eachTerms, termWidth, termsWidth}
 use Rattle.scan.specs.declared.numbers.NumberAt.{NumberAt}
-use Rattle.lines.specs.declared.summaries.Measure.{Measure}
+use Rattle.lines.specs.declared.measures.Measure.{Measure}
 use Rattle.lines.specs.declared.summaries.Summary.{Summary}
 use Rattle.text.specs.Words.{bytes}
 use Rattle.text.specs.Write.{putTerms}

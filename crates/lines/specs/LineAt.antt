@@ -6,7 +6,7 @@ use Rattle.logic.specs.declared.Rule.the-variants.{Refl}
 use Rattle.logic.specs.Syntax.{Clause, Step, sym, input, by}
 use Rattle.logic.specs.Terms.{count}
 use Rattle.logic.specs.Each.{width}
-use Rattle.lines.specs.declared.summaries.Measure.{Measure}
+use Rattle.lines.specs.declared.measures.Measure.{Measure}
 use Rattle.lines.specs.declared.forms.Form.{Form}
 use Rattle.lines.specs.declared.forms.Form.the-variants.{NoForm, Sym, Input, By}
 use Rattle.lines.specs.declared.forms.LineAt.{LineAt}

@@ -7,7 +7,7 @@ use lib.ListN.{length}
 use Rattle.logic.specs.Syntax.{Term, Terms, Result, Atom, link, obj, method, Literal, lit, Clause}
 use Rattle.logic.specs.Terms.{count, resultTerms, termsOf}
 use Rattle.logic.specs.Each.{any, declares, eachTerm, eachTerms, eachAtom, eachClause, termWidth, termsWidth, width}
-use Rattle.lines.specs.declared.summaries.Measure.{Measure}
+use Rattle.lines.specs.declared.measures.Measure.{Measure}
 use Rattle.lines.specs.declared.summaries.Summary.{Summary}
 use Rattle.text.specs.Read.{Parsed}
 use Rattle.text.specs.Places.{endOf, readOr}

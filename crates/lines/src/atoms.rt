@@ -1,5 +1,5 @@
 // Atoms and literals.
-use crate::summaries::Measure;
+use crate::measures::Measure;
 use crate::summaries::Summary;
 use crate::summaries::join;
 use crate::summaries::none;

@@ -1,7 +1,7 @@
 // One line: what form it is, its numbers, the places of its parts, and a measure of all of it.
 use crate::clauses::clause;
 use crate::clauses::list;
-use crate::summaries::Measure;
+use crate::measures::Measure;
 use crate::summaries::join;
 use crate::summaries::none;
 use logic::Rule;

@@ -2,5 +2,6 @@
 mod atoms;
 mod clauses;
 pub mod forms;
-pub mod summaries;
+pub mod measures;
+mod summaries;
 mod terms;

@@ -1,16 +1,9 @@
 // What one pass over a part tells of it.
+use crate::measures::Measure;
+use crate::measures::larger;
 ghost use mathlib.Core.Path.{_≡_};
-ghost use Prim.Native.Nat.{max};
 ghost use mathlib.Core.Bool.{_&&_};
 ghost use Rattle.lines.specs.Summary.{empty, joined, counted, settled};
-
-// How many parts, the highest variable plus 1, the most method arguments, and whether every applied symbol is declared.
-pub struct Measure {
-    pub count: usize,
-    pub width: usize,
-    pub arguments: usize,
-    pub declared: bool,
-}
 
 // The place after the part, and its measure.
 pub struct Summary {
@@ -28,12 +21,6 @@ pub fn none() -> Measure
         arguments: 0,
         declared: true,
     }
-}
-
-pub fn larger(a: usize, b: usize) -> usize
-    ensures { λ r. ⌜ r ≡ max a b ⌝ }
-{
-    if a < b { b } else { a }
 }
 
 pub fn both(a: bool, b: bool) -> bool

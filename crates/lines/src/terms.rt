@@ -1,5 +1,5 @@
 // Terms, and lists of terms up to a closing bracket.
-use crate::summaries::Measure;
+use crate::measures::Measure;
 use crate::summaries::Summary;
 use crate::summaries::both;
 use crate::summaries::join;

@@ -5,7 +5,7 @@ use lines::forms::LineAt;
 use lines::forms::SYM;
 use lines::forms::form_number;
 use lines::forms::line;
-use lines::summaries::larger;
+use lines::measures::larger;
 use scan::texts::BYTES;
 ghost use mathlib.Core.Path.{_≡_};
 ghost use Rattle.reader.specs.State.{hasConstant};

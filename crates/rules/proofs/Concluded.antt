@@ -25,14 +25,14 @@ use Rattle.lines.specs.LineAt.{fromClause}
 use Rattle.text.proofs.Deep.{formedSymbol, clause-bytes}
 use Rattle.text.proofs.Gives.{Gives, nothing, gives, given, strip-gives}
 use Rattle.text.proofs.Heads.{strip-same}
-use Rattle.rules.specs.Shapes.{stripAt}
-use Rattle.rules.specs.Claims.{othersAt}
-use Rattle.rules.specs.Table.{rowAt}
-use Rattle.rules.specs.Conclusions.{newAt, droppedAt, claimAt}
+use Rattle.parts.specs.Shapes.{stripAt}
+use Rattle.filling.specs.Claims.{othersAt}
 use Rattle.rules.specs.Judging.{thenClaim}
-use Rattle.rules.proofs.Placing.{Stands}
-use Rattle.rules.proofs.Claimed.{strip-chain, literals-open}
+use Rattle.parts.proofs.Placing.{Stands}
+use Rattle.filling.proofs.Claimed.{strip-chain, literals-open}
 use Rattle.rules.proofs.Answered.{judgedOf}
+use Rattle.table.specs.Rows.{rowAt}
+use Rattle.rules.specs.Claim.{newAt, droppedAt, claimAt, claimBy}
 
 -- A clause stands at the end of the line, before its last bracket.
 pub record ClaimAt (line : List ℕ) (pos : ℕ) (claim : Clause) : Type 0 where
@@ -89,7 +89,7 @@ module _ (rule : Rule) (k : ℕ) (p : List ℕ) (n i x : ℕ) (line starts q : L
     (firsts : Expects rest a (othersAt p n (droppedAt (uses rule .b) p x i j) line starts rest))
     (seconds : Expects rest b (othersAt q m j line others rest)) where
   claim-chain : stripAt rest (putClause (new ++ (a ++ b)) (word ")" [])) 0 ≡ claimAt rule k p n i x line starts q m j y others rest
-  unfolding putClause claimAt
+  unfolding putClause claimAt claimBy newAt
   claim-chain =
       let o₃ = literals-open b 41 (41 ∷ []) in
       let o₂ = literals-open a (o₃ .0) (o₃ .1) in

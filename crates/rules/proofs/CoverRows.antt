@@ -21,19 +21,21 @@ use Rattle.text.specs.Write.{word, putLiterals}
 use Rattle.text.specs.Form.{formedLiteral}
 use Rattle.text.specs.Heads.{kindNumber, head}
 use Rattle.text.proofs.Heads.{minus-of, minus-other}
-use Rattle.rules.specs.Shapes.{stripAt, positiveAt}
-use Rattle.rules.specs.Rows.{within, answer}
-use Rattle.rules.specs.Covering.{negativeAt, coversAt, resAt, sameSignAt, atomAt, facAt, eliAt}
-use Rattle.rules.specs.Table.{rowAt}
-use Rattle.rules.specs.Conclusions.{newAt}
-use Rattle.rules.proofs.Placing.{strip-stands, strip-past, past-strip, positive-stands, negative-past, head-stands, head-past, or-else-here, or-else-past}
-use Rattle.rules.proofs.Claimed.{strip-chain}
+use Rattle.parts.specs.Shapes.{stripAt, positiveAt}
+use Rattle.parts.proofs.Placing.{strip-stands, strip-past, past-strip, positive-stands, negative-past, head-stands, head-past, or-else-here, or-else-past}
+use Rattle.filling.proofs.Claimed.{strip-chain}
 use Rattle.rules.proofs.Answered.{judgedOf, within-here, within-past, right-shape}
 use Rattle.rules.proofs.Meets.{Images, LiteralAt, Meets}
 use Rattle.rules.proofs.TermsMeet.{missing, concluding}
 use Rattle.rules.proofs.Targets.{link-small, past-positive}
 use Rattle.rules.proofs.RowsMeet.{both-within, one-past, past-shape}
 use Rattle.rules.proofs.CoversMeet.{AtomAt, arrow-range, covers-meet}
+use Rattle.parts.specs.Shapes.{within}
+use Rattle.table.specs.Rows.{answer, rowAt, foundBy, resolved, agreesBy, factored}
+use Rattle.parts.specs.Shapes.{negativeAt}
+use Rattle.filling.specs.Covers.{coversAt}
+use Rattle.parts.specs.Shapes.{sameSignAt, atomAt}
+use Rattle.rules.specs.Claim.{newAt, newBy}
 
 module _ (p : List ℕ) {i v : ℕ} (x : Atom) where
   -- The atom of a literal of either sign.
@@ -59,7 +61,7 @@ past-negative p = past-strip p 40 _
 
 module _ {line starts others : List ℕ} {σ τ : Substitution} {v w : ℕ} (g : Images line starts σ v) (h : Images line others τ w) (k : ℕ) (p q : List ℕ) (i j : ℕ) where
   pub res-meets : (l m : Literal) → LiteralAt p i v l → LiteralAt q j w m → Meets Res k p i line starts q j others (tableRow k Res (fillLiteral σ l) (fillLiteral τ m))
-  unfolding tableRow conclude-res onMinus onPlus fillLiteral rowAt resAt newAt putLiterals Holds
+  unfolding tableRow conclude-res onMinus onPlus fillLiteral rowAt foundBy resolved agreesBy newAt newBy putLiterals Holds
   res-meets (lit Positive x) m a b = missing _ refl (past-shape p q _ _ _ (inl (not-negative p x a)))
   res-meets (lit Negative x) (lit Negative y) a b = missing _ refl (past-shape p q _ _ _ (inr (not-positive q y b)))
   res-meets (lit Negative x) (lit Positive y) a b =
@@ -74,11 +76,11 @@ module _ (k : ℕ) (p : List ℕ) (i : ℕ) (line starts q : List ℕ) (j : ℕ)
   eli-place = strip-chain p (bytes "(- ") 40 _ i
 
   other-eli : {c : Conclusion} → c ≡ misshapen → stripAt p (head 3) (negativeAt p i) ≡ length p + 1 → Meets Eli k p i line starts q j others c
-  unfolding rowAt eliAt answer
+  unfolding rowAt foundBy agreesBy answer
   other-eli e d = missing _ e (rw (within-past p _ (eli-place ∙ d)))
 
   pub eli-meets : (σ : Substitution) {v : ℕ} (l : Literal) → LiteralAt p i v l → Meets Eli k p i line starts q j others (conclude-eli (fillLiteral σ l) [])
-  unfolding conclude-eli onMinus onObj fillLiteral fillAtom rowAt eliAt newAt putLiterals Holds kindNumber
+  unfolding conclude-eli onMinus onObj fillLiteral fillAtom rowAt foundBy agreesBy newAt newBy putLiterals Holds kindNumber
   eli-meets σ (lit Positive x) a = other-eli refl (ap (stripAt p (head 3)) (not-negative p x a) ∙ past-strip p 40 _)
   eli-meets σ (lit Negative (link l t u)) a =
       let c = negative-at p (link l t u) a in
@@ -111,17 +113,17 @@ unfolding judgedOf
 never true = refl
 never false = refl
 
-no-sign : (p : List ℕ) (i j : ℕ) → (positiveAt p i ≡ length p + 1) ⊎ (positiveAt p j ≡ length p + 1) → (negativeAt p i ≡ length p + 1) ⊎ (negativeAt p j ≡ length p + 1) → sameSignAt p i j ≡ false
+no-sign : (p : List ℕ) (i j : ℕ) → (positiveAt p i ≡ length p + 1) ⊎ (positiveAt p j ≡ length p + 1) → (negativeAt p i ≡ length p + 1) ⊎ (negativeAt p j ≡ length p + 1) → sameSignAt p i p j ≡ false
 unfolding sameSignAt
 no-sign p i j e f = rw (one-past p p (positiveAt p i) (positiveAt p j) e, one-past p p (negativeAt p i) (negativeAt p j) f)
 
-module _ {line starts : List ℕ} {σ : Substitution} {v : ℕ} (g : Images line starts σ v) (k : ℕ) (p : List ℕ) (i j : ℕ) (q others : List ℕ) where
+module _ {line starts : List ℕ} {σ : Substitution} {v : ℕ} (g : Images line starts σ v) (k : ℕ) (p : List ℕ) (i j : ℕ) where
   covers-it : {s t : Sign} (x y : Atom) → LiteralAt p i v (lit s x) → LiteralAt p j v (lit t y) → T (coversAt p (atomAt p i) line starts p (atomAt p j) starts) ↔ Covers (fillAtom σ y) (fillAtom σ x)
   covers-it {s} {t} x y c d = covers-meet g g p p _ _ y (sign-at p t y d) x (sign-at p s x c)
 
   pub fac-judged : (l m : Literal) → LiteralAt p i v l → LiteralAt p j v m → (a b : ℕ) → eqb a b ≡ eqb i j → (r r′ : Clause) →
-      rowAt Fac k p i line starts q j others ≡ judgedOf (conclude-fac a b (fillLiteral σ l) r (fillLiteral σ m) r′)
-  unfolding rowAt facAt sameSignAt conclude-fac onPlus onMinus fillLiteral Holds
+      rowAt Fac k p i line starts p j starts ≡ judgedOf (conclude-fac a b (fillLiteral σ l) r (fillLiteral σ m) r′)
+  unfolding rowAt foundBy factored agreesBy sameSignAt conclude-fac onPlus onMinus fillLiteral Holds
   fac-judged (lit Positive x) (lit Positive y) c d a b e r r′ =
       rw e (right-signs (eqb i j) _ _ (covering (fillAtom σ y) (fillAtom σ x)) r′ (rw (within-here p _ (positive-at p x c .stands .within), within-here p _ (positive-at p y d .stands .within))) (covers-it x y c d))
   fac-judged (lit Negative x) (lit Negative y) c d a b e r r′ =
@@ -132,15 +134,15 @@ module _ {line starts : List ℕ} {σ : Substitution} {v : ℕ} (g : Images line
 -- A literal that is missing is misshapen.
 module _ (k : ℕ) (p : List ℕ) (i : ℕ) (line starts q : List ℕ) (j : ℕ) (others : List ℕ) where
   pub res-past : (i ≡ length p + 1) ⊎ (j ≡ length q + 1) → rowAt Res k p i line starts q j others ≡ Misshapen
-  unfolding rowAt resAt
+  unfolding rowAt foundBy resolved agreesBy
   res-past (inl e) = past-shape p q _ _ _ (inl (ap (negativeAt p) e ∙ past-negative p))
   res-past (inr e) = past-shape p q _ _ _ (inr (ap (positiveAt q) e ∙ past-positive q))
 
   pub eli-past : i ≡ length p + 1 → rowAt Eli k p i line starts q j others ≡ Misshapen
-  unfolding rowAt eliAt answer
+  unfolding rowAt foundBy agreesBy answer
   eli-past e = rw (within-past p _ (ap (stripAt p (bytes "(- (obj ")) e ∙ past-strip p 40 _))
 
-  pub fac-past : (i ≡ length p + 1) ⊎ (j ≡ length p + 1) → rowAt Fac k p i line starts q j others ≡ Misshapen
-  unfolding rowAt facAt
+  pub fac-past : (i ≡ length p + 1) ⊎ (j ≡ length p + 1) → rowAt Fac k p i line starts p j starts ≡ Misshapen
+  unfolding rowAt foundBy factored agreesBy
   fac-past (inl e) = other-signs (eqb i j) _ _ (no-sign p i j (inl (ap (positiveAt p) e ∙ past-positive p)) (inl (ap (negativeAt p) e ∙ past-negative p)))
   fac-past (inr e) = other-signs (eqb i j) _ _ (no-sign p i j (inr (ap (positiveAt p) e ∙ past-positive p)) (inr (ap (negativeAt p) e ∙ past-negative p)))

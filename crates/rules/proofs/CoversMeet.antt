@@ -25,16 +25,17 @@ use Rattle.text.specs.Heads.{arrowKind, kindNumber, head}
 use Rattle.text.proofs.Heads.{afterHead, strip-same}
 use Rattle.text.proofs.Nesting.{skip-term}
 use Rattle.text.proofs.Tests.{T-and, holds}
-use Rattle.rules.specs.Shapes.{stripAt, skipAt, nextAt, resultAt}
-use Rattle.rules.specs.Rows.{within, agreeAt, callsAt}
-use Rattle.rules.specs.Covering.{headAt, bareAt, coversAt}
-use Rattle.rules.proofs.Placing.{Stands, walk-past, strip-stands, strip-past, past-strip, skip-stands, next-term, past-next, head-stands, head-past, fromMethod, result-stands}
+use Rattle.parts.specs.Shapes.{stripAt, skipAt, nextAt, resultAt}
+use Rattle.parts.proofs.Placing.{Stands, walk-past, strip-stands, strip-past, past-strip, skip-stands, next-term, past-next, head-stands, head-past, fromMethod, result-stands}
 use Rattle.rules.proofs.Targets.{link-arrow}
-use Rattle.rules.proofs.Agreed.{atoms-agree}
+use Rattle.filling.proofs.Agreed.{atoms-agree}
 use Rattle.rules.proofs.Answered.{within-here, within-past}
-use Rattle.rules.proofs.NumberedFill.{fill-atom-over, atom-deeper}
+use Rattle.filling.proofs.NumberedFill.{fill-atom-over, atom-deeper}
 use Rattle.rules.proofs.Meets.{Images}
 use Rattle.rules.proofs.TermsMeet.{call-stands, calls-meet}
+use Rattle.filling.specs.Agree.{agreeAt, callsAt}
+use Rattle.parts.specs.Shapes.{within}
+use Rattle.filling.specs.Covers.{headAt, bareAt, coversAt}
 
 -- An atom that stands at a place of p, formed, its variables below w.
 pub record AtomAt (p : List ℕ) (at : ℕ) (w : ℕ) (x : Atom) : Type 0 where

@@ -22,17 +22,18 @@ use Rattle.text.proofs.Heads.{strip-same}
 use Rattle.text.proofs.Nesting.{putEach, fromItem, clause-item, skip-literal, howMany, how-many}
 use Rattle.text.proofs.Positions.{item-tail}
 use Rattle.text.specs.Places.{endOf}
-use Rattle.rules.specs.Shapes.{stripAt}
-use Rattle.rules.specs.Claims.{othersFrom, othersAt}
-use Rattle.rules.specs.Conclusions.{placeAt}
-use Rattle.rules.proofs.Placing.{Stands, walk-stands, walk-past, none-past, strip-stands}
-use Rattle.rules.proofs.Claimed.{withoutFrom, others-claimed}
+use Rattle.parts.specs.Shapes.{stripAt}
+use Rattle.filling.specs.Claims.{othersFrom, othersAt}
+use Rattle.parts.proofs.Placing.{Stands, walk-stands, walk-past, none-past, strip-stands}
+use Rattle.filling.proofs.Claimed.{withoutFrom, others-claimed}
 use Rattle.rules.proofs.Meets.{Images, LiteralAt}
+use Rattle.parts.specs.Shapes.{placeAt}
 
--- A part of the text that begins with a clause, formed; an unused parent is no bytes and has no literal.
-pub data PartOf (p : List ℕ) : Clause → Type 0 where
-  unused : p ≡ [] → PartOf p []
-  begins : {c : Clause} (rest : List ℕ) → p ≡ putClause c rest → T (formedClause 16 c) → PartOf p c
+-- A part of the text that begins with a clause, formed.
+pub record PartOf (p : List ℕ) (c : Clause) : Type 0 where
+  pub rest : List ℕ
+  pub written : p ≡ putClause c rest
+  pub formed : T (formedClause 16 c)
 
 -- Without literal n: what "the other literals" are.
 abbrev pub without : ℕ → Clause → Clause
@@ -119,20 +120,6 @@ literal-fits : (n : ℕ) (c : Clause) {l : Literal} {cs : Clause} → drop n c �
 unfolding FirstFits
 literal-fits n c e f = subst (FirstFits (width c)) e (each-fits (width c) n c f (omega arith))
 
--- No literal stands in no bytes.
-none-there : (n : ℕ) {l : Literal} {cs : Clause} → drop n [] ≡ l ∷ cs → ⊥
-none-there zero e = omega (arith, ap length e)
-none-there (suc n) e = omega (arith, ap length e)
-
-no-item : (n : ℕ) → toItem n [] ≡ bad
-unfolding toItem passItem strip
-no-item zero = refl
-no-item (suc n) = refl
-
-nothing-past : (n : ℕ) → placeAt [] n ≡ 1
-unfolding placeAt endOf
-nothing-past n = rw (drop-of-length-le {A = ℕ} [] {i = stripAt [] (bytes "(or") 0} (omega arith), no-item n)
-
 -- The literals of a clause, from the place behind "(or".
 module _ {p : List ℕ} where
   literals-stand : (c : Clause) (rest : List ℕ) → p ≡ putClause c rest → Stands p (stripAt p (bytes "(or") 0) (putLiterals c (word ")" rest))
@@ -145,28 +132,25 @@ module _ {p : List ℕ} where
 
   -- The place of literal n.
   pub place-here : {c : Clause} → PartOf p c → (n : ℕ) {l : Literal} {cs : Clause} → drop n c ≡ l ∷ cs → LiteralAt p (placeAt p n) (width c) l
-  place-here (unused e) n d = absurd (none-there n d)
-  place-here (begins {c} rest e f) n {l} {cs} d =
-      let w = literal-fits n c d f in
+  place-here {c} P n {l} {cs} d =
+      let w = literal-fits n c d (P .formed) in
       record {
-        rest = putEach putLiteral cs (word ")" rest);
-        stands = item-stands c rest e n d;
+        rest = putEach putLiteral cs (word ")" (P .rest));
+        stands = item-stands c (P .rest) (P .written) n d;
         formed = w .0;
         narrow = w .1;
       }
 
   pub place-past : {c : Clause} → PartOf p c → (n : ℕ) → drop n c ≡ [] → placeAt p n ≡ length p + 1
   unfolding placeAt fromItem
-  place-past (unused e) n d = rw e (nothing-past n)
-  place-past (begins {c} rest e f) n d = walk-past p (stripAt p (bytes "(or") 0) (toItem n) (literals-stand c rest e) (clause-item c n rest ∙ ap (λ ls. fromItem putLiteral ls (word ")" rest)) d)
+  place-past {c} P n d = walk-past p (stripAt p (bytes "(or") 0) (toItem n) (literals-stand c (P .rest) (P .written)) (clause-item c n (P .rest) ∙ ap (λ ls. fromItem putLiteral ls (word ")" (P .rest))) d)
 
   -- All its literals but one, expected.
   pub part-others : {c : Clause} → PartOf p c → {line starts : List ℕ} {σ : Substitution} → Images line starts σ (width c) → (dropped : ℕ) (target : List ℕ) (pos b : ℕ) (x : List ℕ) →
       stripAt target (putLiterals (fillClause σ (without dropped c)) (b ∷ x)) pos ≡ stripAt target (b ∷ x) (othersAt p (length c) dropped line starts target pos)
-  unfolding othersAt othersFrom fillClause withoutFrom putLiterals
-  part-others (unused e) g dropped target pos b x = refl
-  part-others (begins {c} rest e f) {line} {starts} {σ} g dropped target pos b x =
-      others-claimed p line starts target σ (width c) (g .entry) dropped 0 c rest pos b x (literals-stand c rest e) f (omega arith)
+  unfolding othersAt
+  part-others {c} P {line} {starts} {σ} g dropped target pos b x =
+      others-claimed p line starts target σ (width c) (g .entry) dropped 0 c (P .rest) pos b x (literals-stand c (P .rest) (P .written)) (P .formed) (omega arith)
 
 -- Two literals stand at one place exactly if they are one literal: so many literals follow.
 unfoldable followed : ℕ → Parsed (Unit {0}) → ℕ
@@ -175,10 +159,9 @@ followed most (got u rest) = howMany most rest
 
 following : {p : List ℕ} {c : Clause} → PartOf p c → (n most : ℕ) {l : Literal} {cs : Clause} → drop n c ≡ l ∷ cs → length cs ≤ most → followed most (skipItem (drop (placeAt p n) p)) ≡ length cs
 unfolding followed
-following (unused e) n most d h = absurd (none-there n d)
-following {p} (begins {c} rest e f) n most {l} {cs} d h =
-    let w = item-stands c rest e n d in
-    rw (w .bytes-there, skip-literal l (putEach putLiteral cs (word ")" rest))) (how-many putLiteral skip-literal cs most rest h)
+following {p} {c} P n most {l} {cs} d h =
+    let w = item-stands c (P .rest) (P .written) n d in
+    rw (w .bytes-there, skip-literal l (putEach putLiteral cs (word ")" (P .rest)))) (how-many putLiteral skip-literal cs most (P .rest) h)
 
 pub same-place : {p : List ℕ} {c : Clause} → PartOf p c → (i j : ℕ) {l m : Literal} {cs ds : Clause} → drop i c ≡ l ∷ cs → drop j c ≡ m ∷ ds → eqb i j ≡ eqb (placeAt p i) (placeAt p j)
 same-place {p} {c} P i j {l} {m} {cs} {ds} d e = go (eqb i j) refl

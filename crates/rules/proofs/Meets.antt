@@ -11,12 +11,12 @@ use Rattle.logic.specs.Rules.{Agreement}
 use Rattle.logic.specs.Judge.{Conclusion, concludes}
 use Rattle.text.specs.Write.{putLiteral, putLiterals}
 use Rattle.text.specs.Form.{numbered, formedLiteral}
-use Rattle.rules.specs.Shapes.{stripAt}
-use Rattle.rules.specs.Table.{rowAt}
-use Rattle.rules.specs.Conclusions.{newAt}
-use Rattle.rules.proofs.Placing.{Stands}
-use Rattle.rules.proofs.Claimed.{Entries}
+use Rattle.parts.specs.Shapes.{stripAt}
+use Rattle.parts.proofs.Placing.{Stands}
+use Rattle.filling.proofs.Claimed.{Entries}
 use Rattle.rules.proofs.Answered.{judgedOf}
+use Rattle.table.specs.Rows.{rowAt}
+use Rattle.rules.specs.Claim.{newAt}
 
 -- A list of the line gives the images of the variables below w, and their numbers are numbers N.
 pub record Images (line starts : List ℕ) (σ : Substitution) (w : ℕ) : Type 0 where

@@ -2,14 +2,13 @@
 use Prim.Native.Nat.{ℕ, _+_, _-_}
 use mathlib.Core.Bool.{true}
 use mathlib.Core.List.{List, [], _∷_}
-use mathlib.Core.Logic.{_⊎_, inl, inr, ⊎-elim}
+use mathlib.Core.Logic.{_⊎_, inl, inr}
 use mathlib.Core.Path.{_≡_, refl, sym, ap, subst, _∙_}
 use native.Mathlib.Omega.{arith}
 use lib.Dec.{eqb}
 use lib.ListN.{length, drop}
 use Rattle.logic.specs.declared.Link.the-variants.{Eq}
 use Rattle.logic.specs.declared.Rule.the-variants.{Par}
-use Rattle.logic.specs.declared.Judged.the-variants.{Misshapen}
 use Rattle.logic.specs.Syntax.{Term, Literal, lit}
 use Rattle.logic.specs.Each.{width}
 use Rattle.logic.specs.Fill.{Substitution, fill, fillLiteral}
@@ -24,18 +23,17 @@ use Rattle.text.specs.Access.{beginsTerm, seek, toOccurrence}
 use Rattle.text.proofs.Gives.{Gives, nothing, gives, weaken}
 use Rattle.text.proofs.Positions.{Tail, End, end-refl, end-cons, strip-tail, and-tail}
 use Rattle.text.proofs.Tests.{onTest}
-use Rattle.rules.specs.Filled.{replacing}
-use Rattle.rules.specs.Shapes.{nextAt, firstAt}
-use Rattle.rules.specs.Table.{parAt, rowAt}
-use Rattle.rules.specs.Conclusions.{parNewAt, newAt}
-use Rattle.rules.proofs.Holes.{stack}
-use Rattle.rules.proofs.Occurring.{Occurs, nowhere, somewhere, occurs}
-use Rattle.rules.proofs.Placing.{walk-stands, walk-past, none-past}
-use Rattle.rules.proofs.Targets.{past-second}
+use Rattle.filling.specs.Filled.{replacing}
+use Rattle.parts.specs.Shapes.{nextAt, firstAt}
+use Rattle.filling.proofs.Holes.{stack}
+use Rattle.filling.proofs.Occurring.{Occurs, nowhere, somewhere, occurs}
+use Rattle.parts.proofs.Placing.{walk-stands, walk-past}
 use Rattle.rules.proofs.TermsMeet.{TermAt}
 use Rattle.rules.proofs.RowsMeet.{LinkView, no-link, a-link, onLinkOf, link-view}
-use Rattle.rules.proofs.Rewrites.{Rewritten, misses, not-rewritten, filler-entry, side-new, filler-hole, rewritten}
+use Rattle.rules.proofs.Rewrites.{rewriteAt, rewriteNewAt, Rewritten, not-rewritten, filler-entry, side-new, filler-hole, rewritten}
 use Rattle.rules.proofs.Meets.{Images, LiteralAt, Meets}
+use Rattle.table.specs.Rows.{rowAt, foundBy, replaced, agreesBy, partAt}
+use Rattle.rules.specs.Claim.{newAt, newBy}
 
 -- The way to an occurrence ends within the bytes.
 seek-tail : (k n : ℕ) → Tail (seek k n)
@@ -78,12 +76,5 @@ module _ (p line starts q others : List ℕ) (σ τ : Substitution) (v w : ℕ) 
       (occurs f σ v 16 16 (filler-entry p line starts q others σ τ v w images images′ x (nextAt q y)) (fill τ c) (side-new p line starts q others σ τ v w images images′ true x b c at-b at-c) g z (a .formed) (omega (arith, a .narrow)) k (a .rest)))
 
   pub par-meets : (i j k : ℕ) (l m : Literal) → LiteralAt p i v l → LiteralAt q j w m → Meets Par k p i line starts q j others (conclude-par σ k l (fillLiteral τ m))
-  unfolding rowAt parAt newAt parNewAt
+  unfolding rowAt foundBy replaced agreesBy partAt newAt newBy rewriteAt rewriteNewAt
   par-meets i j k l m a b = let r = by-eq i (firstAt q (bytes "(eq ") j) k l m a (link-view q j w τ Eq m b) in record { judged = r .judged; claimed = r .claimed }
-
--- A literal that is missing is misshapen.
-pub par-past : (k : ℕ) (p : List ℕ) (i : ℕ) (line starts q : List ℕ) (j : ℕ) (others : List ℕ) → (i ≡ length p + 1) ⊎ (j ≡ length q + 1) → rowAt Par k p i line starts q j others ≡ Misshapen
-unfolding rowAt parAt toOccurrence strip
-par-past k p i line starts q j others missing =
-    misses p i (endOf p (toOccurrence k (drop i p))) line starts q (firstAt q (bytes "(eq ") j) true others
-    (⊎-elim (λ e. inl (ap (λ at. endOf p (toOccurrence k (drop at p))) e ∙ none-past p (toOccurrence k) refl)) (λ e. inr (ap (λ at. nextAt q (firstAt q (bytes "(eq ") at)) e ∙ past-second q Eq)) missing)

@@ -1,38 +1,51 @@
 -- The rewriting rules tra, inc, inh, inp and out in bytes say what the rule table says.
 use Prim.Native.Nat.{ℕ, _+_, _-_, _≤_, _<_}
-use mathlib.Core.Bool.{Bool, true, false, cond}
+use mathlib.Core.Bool.{Bool, true, false, cond, _&&_}
 use mathlib.Core.List.{List, [], _∷_}
 use mathlib.Core.Logic.{_↔_, _⊎_, inl, inr, ⊎-elim}
 use mathlib.Core.Path.{_≡_, refl, sym, ap, subst, _∙_}
 use native.Mathlib.Omega.{arith}
 use lib.Dec.{T}
 use lib.ListN.{length, drop, length-drop}
+use Rattle.logic.specs.declared.Link.{Link}
 use Rattle.logic.specs.declared.Link.the-variants.{Sub}
+use Rattle.logic.specs.declared.Judged.{Judged}
+use Rattle.text.specs.Heads.{head, linkKind}
+use Rattle.table.specs.declared.rows.Target.{Target as Part}
+use Rattle.table.specs.declared.rows.Kind.the-variants.{Rewriting}
 use Rattle.logic.specs.declared.Rule.{Rule}
-use Rattle.logic.specs.declared.Rule.the-variants.{Tra, Inc, Inh, Inp, Out}
 use Rattle.logic.specs.declared.Judged.the-variants.{Misshapen}
 use Rattle.logic.specs.Syntax.{Term, Literal, Clause}
 use Rattle.logic.specs.Fill.{Substitution, fill, fillLiteral}
 use Rattle.logic.specs.Rules.{Agreement, equal, Holds, one}
 use Rattle.logic.specs.Judge.{Conclusion, misshapen, concludes, tableRow}
-use Rattle.logic.proofs.Rewriting.{Aim, aim, agreeing, replacing as other-side, rewrite, tra-rewrites, inc-rewrites, inh-rewrites, inp-rewrites, out-rewrites}
+use Rattle.logic.proofs.Rewriting.{Aim, aim, agreeing, replacing as other-side, rewrite}
 use Rattle.text.specs.Words.{bytes}
 use Rattle.text.specs.Write.{putTerm, putLiteral, putLiterals}
 use Rattle.text.specs.Read.{got}
-use Rattle.rules.specs.Filled.{Filler, fillItem, replacing, matches, endsOf}
-use Rattle.rules.specs.Shapes.{stripAt, nextAt, firstAt, targetAt}
-use Rattle.rules.specs.Claims.{rewrittenAt}
-use Rattle.rules.specs.Rows.{within, agreeAt, rewriteAt}
-use Rattle.rules.specs.Table.{subAt, rowAt}
-use Rattle.rules.specs.Conclusions.{rewriteNewAt, subNewAt, newAt}
-use Rattle.rules.proofs.Placing.{Stands}
-use Rattle.rules.proofs.Claimed.{match-place, spaced-literal}
+use Rattle.filling.specs.Filled.{Filler, fillItem, replacing, matches, endsOf}
+use Rattle.parts.specs.Shapes.{stripAt, nextAt, firstAt}
+use Rattle.filling.specs.Claims.{rewrittenAt}
+use Rattle.parts.proofs.Placing.{Stands}
+use Rattle.filling.proofs.Claimed.{match-place, spaced-literal}
 use Rattle.rules.proofs.Answered.{judgedOf, right-shape}
-use Rattle.rules.proofs.LineLists.{replacing-entry, new-term}
-use Rattle.rules.proofs.Targets.{Placed, missed, found, Aimed, past-second, past-target, tra-placed, inc-placed, inh-placed, inp-placed, out-placed}
+use Rattle.filling.proofs.LineLists.{replacing-entry, new-term}
+use Rattle.rules.proofs.Targets.{Placed, missed, found, Aimed, past-second, past-target}
 use Rattle.rules.proofs.Meets.{Images, LiteralAt, Meets}
 use Rattle.rules.proofs.TermsMeet.{TermAt, term-meets}
 use Rattle.rules.proofs.RowsMeet.{LinkView, no-link, a-link, onLinkOf, link-view, both-within, past-shape}
+use Rattle.table.specs.Rows.{answer, rowOf, partAt, targetAt, rowAt, foundBy, replaced, agreesBy}
+use Rattle.filling.specs.Agree.{agreeAt}
+use Rattle.parts.specs.Shapes.{within}
+use Rattle.rules.specs.Claim.{newAt, newBy}
+
+-- A rewriting rule: the term at x agrees with one side of the positive link whose first term is at y, and the other side takes its place.
+unfoldable pub rewriteAt : List ℕ → ℕ → List ℕ → List ℕ → List ℕ → ℕ → Bool → List ℕ → Judged
+rewriteAt p x line starts q y forward others =
+    answer (within p x && within q (nextAt q y)) (agreeAt p x line starts q (cond forward y (nextAt q y)) others)
+
+unfoldable pub rewriteNewAt : List ℕ → ℕ → ℕ → List ℕ → List ℕ → List ℕ → ℕ → Bool → List ℕ → List ℕ → ℕ → ℕ
+rewriteNewAt p i x line starts q y forward others rest pos = rewrittenAt p i x line starts q (cond forward (nextAt q y) y) others rest pos
 
 -- What is asked of a rewriting rule: the term at x, and the link whose first term is at y.
 pub record Rewritten (p : List ℕ) (i x : ℕ) (line starts q : List ℕ) (y : ℕ) (forward : Bool) (others : List ℕ) (c : Conclusion) : Type 0 where
@@ -125,50 +138,19 @@ module _ (p line starts q others : List ℕ) (σ τ : Substitution) (v w : ℕ) 
         Rewritten p i (targetAt p rule k i) line starts q (firstAt q (bytes "(sub ") j) forward others (tableRow k rule (fillLiteral σ l) (fillLiteral τ m))
     by-sub rule forward e t = rw e (aimed forward l m (a .rest) (a .stands) (t i k l (a .rest) (a .stands) (a .formed) (a .narrow)) (link-view q j w τ Sub m b))
 
-    pub tra-meets : Row Tra
-    unfolding rowAt subAt newAt subNewAt
-    tra-meets = let r = by-sub Tra true (tra-rewrites k σ l (fillLiteral τ m)) (tra-placed p v) in record { judged = r .judged; claimed = r .claimed }
+    -- Any of the rules that do, by its row.
+    pub sub-meets : (rule : Rule) (target : Part) (forward : Bool) → rowOf rule ≡ record { kind = Rewriting; target = target; link = Sub; forward = forward } →
+        tableRow k rule (fillLiteral σ l) (fillLiteral τ m) ≡ rewrite Sub forward σ (aim k rule l) (fillLiteral τ m) → Aimed p v rule → Row rule
+    unfolding rowAt foundBy replaced agreesBy newAt newBy rewriteAt rewriteNewAt
+    sub-meets rule target forward r e t =
+        let s = by-sub rule forward e t in
+        record { judged = rw r (rw r at (s .judged)); claimed = rw r (rw r at (s .claimed)) }
 
-    pub inc-meets : Row Inc
-    unfolding rowAt subAt newAt subNewAt
-    inc-meets = let r = by-sub Inc true (inc-rewrites k σ l (fillLiteral τ m)) (inc-placed p v) in record { judged = r .judged; claimed = r .claimed }
-
-    pub inh-meets : Row Inh
-    unfolding rowAt subAt newAt subNewAt
-    inh-meets = let r = by-sub Inh false (inh-rewrites k σ l (fillLiteral τ m)) (inh-placed p v) in record { judged = r .judged; claimed = r .claimed }
-
-    pub inp-meets : Row Inp
-    unfolding rowAt subAt newAt subNewAt
-    inp-meets = let r = by-sub Inp false (inp-rewrites k σ l (fillLiteral τ m)) (inp-placed p v) in record { judged = r .judged; claimed = r .claimed }
-
-    pub out-meets : Row Out
-    unfolding rowAt subAt newAt subNewAt
-    out-meets = let r = by-sub Out true (out-rewrites k σ l (fillLiteral τ m)) (out-placed p v) in record { judged = r .judged; claimed = r .claimed }
-
--- A literal that is missing is misshapen.
-module _ (k : ℕ) (p : List ℕ) (i : ℕ) (line starts q : List ℕ) (j : ℕ) (others : List ℕ) (missing : (i ≡ length p + 1) ⊎ (j ≡ length q + 1)) where
-  sub-past : (rule : Rule) (forward : Bool) → subAt rule forward k p i line starts q j others ≡ Misshapen
-  unfolding subAt
-  sub-past rule forward =
-      misses p i (targetAt p rule k i) line starts q (firstAt q (bytes "(sub ") j) forward others
-      (⊎-elim (λ e. inl (ap (targetAt p rule k) e ∙ past-target p rule k)) (λ e. inr (ap (λ at. nextAt q (firstAt q (bytes "(sub ") at)) e ∙ past-second q Sub)) missing)
-
-  pub tra-past : rowAt Tra k p i line starts q j others ≡ Misshapen
-  unfolding rowAt
-  tra-past = sub-past Tra true
-
-  pub inc-past : rowAt Inc k p i line starts q j others ≡ Misshapen
-  unfolding rowAt
-  inc-past = sub-past Inc true
-
-  pub inh-past : rowAt Inh k p i line starts q j others ≡ Misshapen
-  unfolding rowAt
-  inh-past = sub-past Inh false
-
-  pub inp-past : rowAt Inp k p i line starts q j others ≡ Misshapen
-  unfolding rowAt
-  inp-past = sub-past Inp false
-
-  pub out-past : rowAt Out k p i line starts q j others ≡ Misshapen
-  unfolding rowAt
-  out-past = sub-past Out true
+-- A literal that is missing is misshapen, in the row of any rule that rewrites.
+module _ (k : ℕ) (p : List ℕ) (i : ℕ) (line starts q : List ℕ) (j : ℕ) (others : List ℕ) where
+  pub rewrites-past : (rule : Rule) (target : Part) (kind : Link) (forward : Bool) → rowOf rule ≡ record { kind = Rewriting; target = target; link = kind; forward = forward } →
+      (i ≡ length p + 1) ⊎ (j ≡ length q + 1) → rowAt rule k p i line starts q j others ≡ Misshapen
+  unfolding rowAt foundBy replaced agreesBy rewriteAt
+  rewrites-past rule target kind forward r missing =
+      rw r (misses p i (partAt target k p i) line starts q (firstAt q (head (linkKind kind)) j) forward others
+      (⊎-elim (λ e. inl (ap (partAt target k p) e ∙ past-target p target k)) (λ e. inr (ap (λ at. nextAt q (firstAt q (head (linkKind kind)) at)) e ∙ past-second q kind)) missing))

@@ -27,15 +27,17 @@ use Rattle.text.specs.Form.{depthOf, numbered, formedTerm, formedAtom, formedLi
 use Rattle.text.specs.Heads.{linkKind, arrowKind, kindNumber, head}
 use Rattle.text.proofs.Heads.{afterHead}
 use Rattle.text.proofs.Tests.{T-and}
-use Rattle.rules.specs.Shapes.{stripAt, nextAt, positiveAt, firstAt, ifPlace, resultAt, objectAt}
-use Rattle.rules.specs.Rows.{within, answer, acyAt, equalTests, sameArrowAt, scaAt}
-use Rattle.rules.specs.Table.{rowAt}
-use Rattle.rules.specs.Conclusions.{reflNewAt, acyNewAt, scaNewAt, newAt}
-use Rattle.rules.proofs.Placing.{Stands, positive-stands, negative-past, head-stands, head-past, next-term, inner, either-stands, either-past, past-inner, object-of, object-none, past-object}
+use Rattle.parts.specs.Shapes.{stripAt, nextAt, positiveAt, firstAt, ifPlace, resultAt, objectAt}
+use Rattle.parts.proofs.Placing.{Stands, positive-stands, negative-past, head-stands, head-past, next-term, inner, either-stands, either-past, past-inner, object-of, object-none, past-object}
 use Rattle.rules.proofs.Targets.{kind-link, link-object, link-arrow, link-past, past-link, past-positive, past-second}
 use Rattle.rules.proofs.Answered.{judgedOf, within-here, within-past, right-shape}
 use Rattle.rules.proofs.Meets.{Images, LiteralAt, Meets}
 use Rattle.rules.proofs.TermsMeet.{TermAt, CallAt, call-stands, result-at, term-meets, calls-meet, linked-claimed, missing, concluding}
+use Rattle.parts.specs.Shapes.{within}
+use Rattle.table.specs.Rows.{answer, rowAt, foundBy, crossed, agreesBy, called}
+use Rattle.parts.specs.Shapes.{equalTests, sameArrowAt}
+use Rattle.rules.specs.Claim.{newAt, newBy}
+use Rattle.filling.specs.Claims.{reflexiveAt, equatedAt}
 
 -- refl: variable 0 by itself.
 variable-zero : TermAt (bytes "(v 0)") 0 1 (var 0)
@@ -44,7 +46,7 @@ variable-zero = record { rest = []; stands = record { within = omega arith; byte
 
 pub refl-meets : (k : ℕ) (p : List ℕ) (i : ℕ) {line starts : List ℕ} (q : List ℕ) (j : ℕ) (others : List ℕ) {σ : Substitution} → Images line starts σ 1 →
     Meets Refl k p i line starts q j others (withNew always (link Sub (σ 0) (σ 0)))
-unfolding rowAt judgedOf holds? newAt reflNewAt fill
+unfolding rowAt foundBy agreesBy answer judgedOf holds? newAt newBy reflexiveAt fill
 refl-meets k p i q j others {σ} g =
     concluding (withNew always (link Sub (σ 0) (σ 0))) always (plus (link Sub (σ 0) (σ 0)) ∷ []) refl refl
     (linked-claimed g g variable-zero variable-zero Sub (bytes " (+ (sub ") (λ rest. refl))
@@ -99,7 +101,7 @@ pairs s t s′ t′ = (λ e. (cc, cc), λ e. let f = e .0 in let g = e .1 in cc)
 
 module _ {line starts others : List ℕ} {σ τ : Substitution} {v w : ℕ} (g : Images line starts σ v) (h : Images line others τ w) (k : ℕ) (p q : List ℕ) (i j : ℕ) where
   pub acy-meets : (l m : Literal) → LiteralAt p i v l → LiteralAt q j w m → Meets Acy k p i line starts q j others (tableRow k Acy (fillLiteral σ l) (fillLiteral τ m))
-  unfolding tableRow conclude-acy onSub rowAt acyAt newAt acyNewAt Holds
+  unfolding tableRow conclude-acy onSub rowAt foundBy crossed agreesBy newAt newBy equatedAt Holds
   acy-meets l m a b = go (link-view p i v σ Sub l a) (link-view q j w τ Sub m b)
     where
       go : LinkView p (firstAt p (head 2) i) σ v (onLinkOf σ Sub l) → LinkView q (firstAt q (head 2) j) τ w (onLinkOf τ Sub m) → Meets Acy k p i line starts q j others (conclude-acy (fillLiteral σ l) (fillLiteral τ m))
@@ -181,7 +183,7 @@ calls a a′ o m o′ m′ ts ts′ = (λ e. (cc, cc, cc, cc), λ d. let e = d .
 
 module _ {line starts others : List ℕ} {σ τ : Substitution} {v w : ℕ} (g : Images line starts σ v) (h : Images line others τ w) (k : ℕ) (p q : List ℕ) (i j : ℕ) where
   pub sca-meets : (l m : Literal) → LiteralAt p i v l → LiteralAt q j w m → Meets Sca k p i line starts q j others (tableRow k Sca (fillLiteral σ l) (fillLiteral τ m))
-  unfolding tableRow conclude-sca rowAt scaAt sameArrowAt newAt scaNewAt Holds
+  unfolding tableRow conclude-sca rowAt foundBy called agreesBy sameArrowAt newAt newBy equatedAt Holds
   sca-meets l m a b = go (scalar-view p i v σ l a) (scalar-view q j w τ m b)
     where
       go : ScalarView p i (objectAt p (head 4) (head 5) i) σ v (onScalar (fillLiteral σ l)) → ScalarView q j (objectAt q (head 4) (head 5) j) τ w (onScalar (fillLiteral τ m)) →
@@ -206,11 +208,11 @@ past-scalar-object p i e = rw (e, past-positive p) (past-scalar p)
 -- A literal that is missing is misshapen.
 module _ (k : ℕ) (p : List ℕ) (i : ℕ) (line starts q : List ℕ) (j : ℕ) (others : List ℕ) where
   pub acy-past : (i ≡ length p + 1) ⊎ (j ≡ length q + 1) → rowAt Acy k p i line starts q j others ≡ Misshapen
-  unfolding rowAt acyAt
+  unfolding rowAt foundBy crossed agreesBy
   acy-past (inl e) = past-shape p q _ _ _ (inl (ap (λ at. nextAt p (firstAt p (bytes "(sub ") at)) e ∙ past-second p Sub))
   acy-past (inr e) = past-shape p q _ _ _ (inr (ap (λ at. nextAt q (firstAt q (bytes "(sub ") at)) e ∙ past-second q Sub))
 
   pub sca-past : (i ≡ length p + 1) ⊎ (j ≡ length q + 1) → rowAt Sca k p i line starts q j others ≡ Misshapen
-  unfolding rowAt scaAt
+  unfolding rowAt foundBy called agreesBy
   sca-past (inl e) = past-shape p q _ _ _ (inl (past-scalar-object p i e))
   sca-past (inr e) = past-shape p q _ _ _ (inr (past-scalar-object q j e))

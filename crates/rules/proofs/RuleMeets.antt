@@ -8,7 +8,7 @@ use native.Mathlib.Omega.{arith}
 use lib.Dec.{T, eqb}
 use lib.ListN.{length, drop}
 use Rattle.logic.specs.declared.Sign.the-variants.{Positive, Negative}
-use Rattle.logic.specs.declared.Link.the-variants.{Sub}
+use Rattle.logic.specs.declared.Link.the-variants.{Eq, Sub}
 use Rattle.logic.specs.declared.Rule.{Rule}
 use Rattle.logic.specs.declared.Rule.the-variants.{Refl, Res, Fac, Par, Acy, Tra, Inc, Inh, Inp, Out, Sca, Eli}
 use Rattle.logic.specs.declared.Judged.the-variants.{Passed, Misshapen}
@@ -21,23 +21,29 @@ use Rattle.logic.proofs.Over.{Over}
 use Rattle.text.specs.Write.{putLiterals}
 use Rattle.text.specs.Form.{formedNumber}
 use Rattle.text.proofs.Deep.{formedSymbol}
-use Rattle.rules.specs.Shapes.{positiveAt}
-use Rattle.rules.specs.Claims.{othersFrom, othersAt}
-use Rattle.rules.specs.Rows.{within}
-use Rattle.rules.specs.Table.{rowAt}
-use Rattle.rules.specs.Conclusions.{newAt, placeAt, secondAt, droppedAt, claimAt}
+use Rattle.parts.specs.Shapes.{positiveAt}
+use Rattle.filling.specs.Claims.{othersFrom, othersAt}
 use Rattle.rules.specs.Judging.{thenClaim, concludeAt}
-use Rattle.rules.proofs.Placing.{Stands, positive-stands, negative-past}
-use Rattle.rules.proofs.Claimed.{withoutFrom}
+use Rattle.parts.proofs.Placing.{Stands, positive-stands, negative-past}
+use Rattle.filling.proofs.Claimed.{withoutFrom}
 use Rattle.rules.proofs.Answered.{judgedOf, within-here, within-past}
 use Rattle.rules.proofs.Meets.{Images, LiteralAt, Meets}
 use Rattle.rules.proofs.RowsMeet.{refl-meets, acy-meets, sca-meets, acy-past, sca-past}
 use Rattle.rules.proofs.CoverRows.{res-meets, eli-meets, fac-judged, res-past, eli-past, fac-past}
-use Rattle.rules.proofs.Rewrites.{tra-meets, inc-meets, inh-meets, inp-meets, out-meets, tra-past, inc-past, inh-past, inp-past, out-past}
-use Rattle.rules.proofs.ParMeets.{par-meets, par-past}
+use Rattle.logic.proofs.Rewriting.{aim, rewrite, tra-rewrites, inc-rewrites, inh-rewrites, inp-rewrites, out-rewrites}
+use Rattle.table.specs.declared.rows.Kind.the-variants.{Rewriting}
+use Rattle.table.specs.declared.rows.Target.{Target as Part}
+use Rattle.table.specs.declared.rows.Target.the-variants.{Occurrence, Subclass, Member, Object, Argument, Result as Output}
+use Rattle.rules.proofs.Targets.{Aimed, tra-placed, inc-placed, inh-placed, inp-placed, out-placed}
+use Rattle.rules.proofs.Rewrites.{sub-meets, rewrites-past}
+use Rattle.rules.proofs.ParMeets.{par-meets}
 use Rattle.rules.proofs.Literals.{PartOf, without, at-here, at-none, at-filled, at-none-filled, place-here, place-past, part-others, same-place}
 use Rattle.rules.proofs.Concluded.{ClaimAt, Expects, concluded}
 use Rattle.rules.proofs.StepMeets.{Taken, taken, absent, take-at, TwoParents, given-over, stops, two-meets}
+use Rattle.parts.specs.Shapes.{within}
+use Rattle.table.specs.Rows.{rowOf, rowAt, foundBy, factored}
+use Rattle.rules.specs.Claim.{newAt, newBy, droppedAt, claimAt}
+use Rattle.parts.specs.Shapes.{placeAt}
 
 -- What the rules with two parents take of the literals.
 module _ (A B : Parent) (i j k : ℕ) where
@@ -95,25 +101,34 @@ module _ (A B : Parent) {p line starts q others : List ℕ} (G : Images line sta
   unfolding uses conclude
   sca-two = table-two Sca refl refl (λ x y. sca-meets G H k p q x y) (λ x y. sca-past k p x line starts q y others)
 
+  -- A rule that rewrites by a link + sub.
+  sub-two : (rule : Rule) (target : Part) (forward : Bool) → rowOf rule ≡ record { kind = Rewriting; target = target; link = Sub; forward = forward } → uses rule .b ≡ true →
+      conclude A B i j k rule ≡ two A B i j (tableRow k rule) → ((σ : Substitution) (l m : Literal) → tableRow k rule (fillLiteral σ l) m ≡ rewrite Sub forward σ (aim k rule l) m) → Aimed p (width (A .clause)) rule →
+      TwoParents rule k A B i j p line starts q others
+  sub-two rule target forward r b e rewrites placed =
+      table-two rule b e
+      (λ x y l m a c. sub-meets p line starts q others (A .image) (B .image) (width (A .clause)) (width (B .clause)) G H x y k l m a c rule target forward r (rewrites (A .image) l (fillLiteral (B .image) m)) placed)
+      (λ x y. rewrites-past k p x line starts q y others rule target Sub forward r)
+
   pub tra-two : TwoParents Tra k A B i j p line starts q others
   unfolding uses conclude
-  tra-two = table-two Tra refl refl (λ x y. tra-meets p line starts q others (A .image) (B .image) (width (A .clause)) (width (B .clause)) G H x y k) (λ x y. tra-past k p x line starts q y others)
+  tra-two = sub-two Tra Subclass true refl refl refl (tra-rewrites k) (tra-placed p (width (A .clause)))
 
   pub inc-two : TwoParents Inc k A B i j p line starts q others
   unfolding uses conclude
-  inc-two = table-two Inc refl refl (λ x y. inc-meets p line starts q others (A .image) (B .image) (width (A .clause)) (width (B .clause)) G H x y k) (λ x y. inc-past k p x line starts q y others)
+  inc-two = sub-two Inc Member true refl refl refl (inc-rewrites k) (inc-placed p (width (A .clause)))
 
   pub inh-two : TwoParents Inh k A B i j p line starts q others
   unfolding uses conclude
-  inh-two = table-two Inh refl refl (λ x y. inh-meets p line starts q others (A .image) (B .image) (width (A .clause)) (width (B .clause)) G H x y k) (λ x y. inh-past k p x line starts q y others)
+  inh-two = sub-two Inh Object false refl refl refl (inh-rewrites k) (inh-placed p (width (A .clause)))
 
   pub inp-two : TwoParents Inp k A B i j p line starts q others
   unfolding uses conclude
-  inp-two = table-two Inp refl refl (λ x y. inp-meets p line starts q others (A .image) (B .image) (width (A .clause)) (width (B .clause)) G H x y k) (λ x y. inp-past k p x line starts q y others)
+  inp-two = sub-two Inp Argument false refl refl refl (inp-rewrites k) (inp-placed p (width (A .clause)))
 
   pub out-two : TwoParents Out k A B i j p line starts q others
   unfolding uses conclude
-  out-two = table-two Out refl refl (λ x y. out-meets p line starts q others (A .image) (B .image) (width (A .clause)) (width (B .clause)) G H x y k) (λ x y. out-past k p x line starts q y others)
+  out-two = sub-two Out Output true refl refl refl (out-rewrites k) (out-placed p (width (A .clause)))
 
   pub par-two : TwoParents Par k A B i j p line starts q others
   unfolding uses
@@ -123,7 +138,7 @@ module _ (A B : Parent) {p line starts q others : List ℕ} (G : Images line sta
     gives = par-gives A B i j k;
     lacks = par-lacks A B i j k;
     meets = λ x y. par-meets p line starts q others (A .image) (B .image) (width (A .clause)) (width (B .clause)) G H x y k;
-    past = λ x y. par-past k p x line starts q y others;
+    past = λ x y. rewrites-past k p x line starts q y others Par Occurrence Eq true refl;
   }
 
 -- The sign of the literal at I, seen from its bytes.
@@ -148,42 +163,42 @@ pub no-others : (line q others target : List ℕ) (j : ℕ) → Expects target [
 unfolding othersAt othersFrom putLiterals
 no-others line q others target j pos b x = refl
 
-module _ (A : Parent) (τ : Substitution) (p line starts q others : List ℕ) (P : PartOf p (A .clause)) (Q : PartOf q [])
-    (G : Images line starts (A .image) (width (A .clause))) (H : Images line others τ (width []))
+module _ (A : Parent) (τ : Substitution) (p line starts : List ℕ) (P : PartOf p (A .clause))
+    (G : Images line starts (A .image) (width (A .clause)))
     {pos : ℕ} {claim : Clause} (at : ClaimAt line pos claim)
     (over : Over formedNumber formedSymbol (filled A)) (image : T (eachTerm formedNumber formedSymbol (A .image 0))) (i j k : ℕ) where
   -- Only A's other literals, the one at d apart.
-  one-parent : (rule : Rule) (x y d : ℕ) (g : Agreement) → Expects (drop pos line) [] (newAt rule k p x line starts q y others (drop pos line)) → droppedAt (uses rule .b) p x i j ≡ d →
-      rowAt rule k p x line starts q y others ≡ judgedOf (concludes g []) → conclude A (bare τ) i j k rule ≡ concludes g (fillClause (A .image) (without d (A .clause))) →
-      thenClaim (rowAt rule k p x line starts q y others) (eqb (claimAt rule k p (length (A .clause)) i x line starts q 0 j y others (drop pos line)) (length (drop pos line))) ≡
+  one-parent : (rule : Rule) (x y d : ℕ) (g : Agreement) → Expects (drop pos line) [] (newAt rule k p x line starts p y starts (drop pos line)) → droppedAt (uses rule .b) p x i j ≡ d →
+      rowAt rule k p x line starts p y starts ≡ judgedOf (concludes g []) → conclude A (bare τ) i j k rule ≡ concludes g (fillClause (A .image) (without d (A .clause))) →
+      thenClaim (rowAt rule k p x line starts p y starts) (eqb (claimAt rule k p (length (A .clause)) i x line starts p 0 j y starts (drop pos line)) (length (drop pos line))) ≡
       judgeConclusion (conclude A (bare τ) i j k rule) claim
   one-parent rule x y d g new e row c =
       let rest = fillClause (A .image) (without d (A .clause)) in
       let a : rest ++ [] ≡ rest = append-nil rest in
-      concluded rule k p (length (A .clause)) i x line starts q 0 j y others [] rest [] at
-      new (rw e (part-others P G d (drop pos line))) (no-others line q others (drop pos line) j) g row (rw a (given-over A (bare τ) P Q G H at over (no-over τ) image i j k rule c))
+      concluded rule k p (length (A .clause)) i x line starts p 0 j y starts [] rest [] at
+      new (rw e (part-others P G d (drop pos line))) (no-others line p starts (drop pos line) j) g row (rw a (given-over A (bare τ) over (no-over τ) image i j k rule c))
       ∙ ap (λ z. judgeConclusion z claim) (ap (concludes g) a ∙ sym c)
 
   abbrev Answers : Rule → ℕ → Type 0
   Answers rule y =
-      thenClaim (rowAt rule k p (placeAt p i) line starts q y others) (eqb (claimAt rule k p (length (A .clause)) i (placeAt p i) line starts q 0 j y others (drop pos line)) (length (drop pos line))) ≡
+      thenClaim (rowAt rule k p (placeAt p i) line starts p y starts) (eqb (claimAt rule k p (length (A .clause)) i (placeAt p i) line starts p 0 j y starts (drop pos line)) (length (drop pos line))) ≡
       judgeConclusion (conclude A (bare τ) i j k rule) claim
 
-  stopped : (rule : Rule) (y : ℕ) → rowAt rule k p (placeAt p i) line starts q y others ≡ Misshapen → conclude A (bare τ) i j k rule ≡ misshapen → Answers rule y
-  stopped rule y e f = stops A (bare τ) P Q G H at over (no-over τ) image _ _ _ e f
+  stopped : (rule : Rule) (y : ℕ) → rowAt rule k p (placeAt p i) line starts p y starts ≡ Misshapen → conclude A (bare τ) i j k rule ≡ misshapen → Answers rule y
+  stopped rule y e f = stops claim _ _ _ e f
 
   -- eli: the literal at I is - obj(P).
   eli-other : (y : ℕ) (l : Literal) (cs : Clause) → drop i (A .clause) ≡ l ∷ cs → ((r : Clause) → conclude-eli (fillLiteral (A .image) l) r ≡ misshapen) → Answers Eli y
   unfolding conclude filled judgedOf
   eli-other y l cs d h =
-      stopped Eli y (eli-meets k p (placeAt p i) line starts q y others (A .image) l (place-here P i d) .judged ∙ ap judgedOf (h []))
+      stopped Eli y (eli-meets k p (placeAt p i) line starts p y starts (A .image) l (place-here P i d) .judged ∙ ap judgedOf (h []))
       (at-filled (A .image) i (A .clause) conclude-eli d ∙ h (fillClause (A .image) (without i (A .clause))))
 
   eli-taken : (y : ℕ) (l : Literal) (cs : Clause) → drop i (A .clause) ≡ l ∷ cs → Answers Eli y
-  unfolding conclude filled conclude-eli onMinus onObj fillLiteral fillAtom newAt putLiterals uses
+  unfolding conclude filled conclude-eli onMinus onObj fillLiteral fillAtom newAt newBy foundBy putLiterals uses
   eli-taken y (lit Negative (obj t)) cs d =
       one-parent Eli (placeAt p i) y i always (λ pos b z. refl) (minus-dropped (obj t) (place-here P i d) i j)
-      (eli-meets k p (placeAt p i) line starts q y others (A .image) (lit Negative (obj t)) (place-here P i d) .judged) (at-filled (A .image) i (A .clause) conclude-eli d)
+      (eli-meets k p (placeAt p i) line starts p y starts (A .image) (lit Negative (obj t)) (place-here P i d) .judged) (at-filled (A .image) i (A .clause) conclude-eli d)
   eli-taken y (lit Negative (link l t u)) cs d = eli-other y (lit Negative (link l t u)) cs d (λ r. refl)
   eli-taken y (lit Negative (method a o m ts r)) cs d = eli-other y (lit Negative (method a o m ts r)) cs d (λ r. refl)
   eli-taken y (lit Positive x) cs d = eli-other y (lit Positive x) cs d (λ r. refl)
@@ -194,7 +209,7 @@ module _ (A : Parent) (τ : Substitution) (p line starts q others : List ℕ) (P
     where
       go : Taken i (A .clause) → Answers Eli y
       go (taken l cs d) = eli-taken y l cs d
-      go (absent d) = stopped Eli y (eli-past k p (placeAt p i) line starts q y others (place-past P i d)) (at-none-filled (A .image) i (A .clause) conclude-eli d)
+      go (absent d) = stopped Eli y (eli-past k p (placeAt p i) line starts p y starts (place-past P i d)) (at-none-filled (A .image) i (A .clause) conclude-eli d)
 
 -- fac: one of the two clauses that lack a literal, or none.
 data Factors (f : Clause → Clause → Conclusion) (pick : Clause → Clause → Clause) : Type 0 where
@@ -219,19 +234,19 @@ minus-factors i j x m = go (eqb i j) m
     go false (lit Positive y) = neither (λ r r′. refl)
     go false (lit Negative y) = factors (covering y x) (λ r r′. refl)
 
-module _ (A : Parent) (τ : Substitution) (p line starts q others : List ℕ) (P : PartOf p (A .clause)) (Q : PartOf q [])
-    (G : Images line starts (A .image) (width (A .clause))) (H : Images line others τ (width []))
+module _ (A : Parent) (τ : Substitution) (p line starts : List ℕ) (P : PartOf p (A .clause))
+    (G : Images line starts (A .image) (width (A .clause)))
     {pos : ℕ} {claim : Clause} (at : ClaimAt line pos claim)
     (over : Over formedNumber formedSymbol (filled A)) (image : T (eachTerm formedNumber formedSymbol (A .image 0))) (i j k : ℕ) where
   abbrev FacAnswers : Type 0
-  FacAnswers = Answers A τ p line starts q others P Q G H at over image i j k Fac (placeAt p j)
+  FacAnswers = Answers A τ p line starts P G at over image i j k Fac (placeAt p j)
 
   abbrev lacking : ℕ → Clause
   lacking d = fillClause (A .image) (without d (A .clause))
 
   module _ (l m : Literal) (cs ds : Clause) (d : drop i (A .clause) ≡ l ∷ cs) (e : drop j (A .clause) ≡ m ∷ ds) where
-    fac-row : (r r′ : Clause) → rowAt Fac k p (placeAt p i) line starts q (placeAt p j) others ≡ judgedOf (conclude-fac i j (fillLiteral (A .image) l) r (fillLiteral (A .image) m) r′)
-    fac-row r r′ = fac-judged G k p (placeAt p i) (placeAt p j) q others l m (place-here P i d) (place-here P j e) i j (same-place P i j d e) r r′
+    fac-row : (r r′ : Clause) → rowAt Fac k p (placeAt p i) line starts p (placeAt p j) starts ≡ judgedOf (conclude-fac i j (fillLiteral (A .image) l) r (fillLiteral (A .image) m) r′)
+    fac-row r r′ = fac-judged G k p (placeAt p i) (placeAt p j) l m (place-here P i d) (place-here P j e) i j (same-place P i j d e) r r′
 
     fac-gives : conclude A (bare τ) i j k Fac ≡ conclude-fac i j (fillLiteral (A .image) l) (lacking i) (fillLiteral (A .image) m) (lacking j)
     unfolding conclude filled
@@ -240,10 +255,10 @@ module _ (A : Parent) (τ : Substitution) (p line starts q others : List ℕ) (P
     -- Literal n is the one that the claim lacks.
     by-factors : (n : ℕ) (pick : Clause → Clause → Clause) → droppedAt false p (placeAt p i) i j ≡ n → pick (lacking i) (lacking j) ≡ lacking n →
         Factors (λ r r′. conclude-fac i j (fillLiteral (A .image) l) r (fillLiteral (A .image) m) r′) pick → FacAnswers
-    unfolding judgedOf uses newAt putLiterals
-    by-factors n pick f h (neither s) = stopped A τ p line starts q others P Q G H at over image i j k Fac (placeAt p j) (fac-row [] [] ∙ ap judgedOf (s [] [])) (fac-gives ∙ s (lacking i) (lacking j))
+    unfolding judgedOf uses newAt newBy foundBy factored putLiterals
+    by-factors n pick f h (neither s) = stopped A τ p line starts P G at over image i j k Fac (placeAt p j) (fac-row [] [] ∙ ap judgedOf (s [] [])) (fac-gives ∙ s (lacking i) (lacking j))
     by-factors n pick f h (factors g s) =
-        one-parent A τ p line starts q others P Q G H at over image i j k Fac (placeAt p i) (placeAt p j) n g (λ pos b z. refl) f
+        one-parent A τ p line starts P G at over image i j k Fac (placeAt p i) (placeAt p j) n g (λ pos b z. refl) f
         (fac-row (lacking i) (lacking j) ∙ ap judgedOf (s (lacking i) (lacking j)) ∙ refl) (fac-gives ∙ s (lacking i) (lacking j) ∙ ap (concludes g) h)
 
   fac-taken : (l m : Literal) (cs ds : Clause) → drop i (A .clause) ≡ l ∷ cs → drop j (A .clause) ≡ m ∷ ds → FacAnswers
@@ -258,7 +273,7 @@ module _ (A : Parent) (τ : Substitution) (p line starts q others : List ℕ) (P
   fac-answers = go (take-at i (A .clause)) (take-at j (A .clause))
     where
       past-fac : (placeAt p i ≡ length p + 1) ⊎ (placeAt p j ≡ length p + 1) → conclude A (bare τ) i j k Fac ≡ misshapen → FacAnswers
-      past-fac h f = stopped A τ p line starts q others P Q G H at over image i j k Fac (placeAt p j) (fac-past k p (placeAt p i) line starts q (placeAt p j) others h) f
+      past-fac h f = stopped A τ p line starts P G at over image i j k Fac (placeAt p j) (fac-past k p (placeAt p i) line starts p (placeAt p j) starts h) f
 
       go : Taken i (A .clause) → Taken j (A .clause) → FacAnswers
       go (taken l cs d) (taken m ds e) = fac-taken l m cs ds d e

@@ -21,14 +21,15 @@ use Rattle.logic.proofs.Over.{Over, infers-over}
 use Rattle.logic.proofs.Table.{concludes→infers}
 use Rattle.text.specs.Form.{formedNumber}
 use Rattle.text.proofs.Deep.{formedSymbol}
-use Rattle.rules.specs.Claims.{othersAt}
-use Rattle.rules.specs.Table.{rowAt}
-use Rattle.rules.specs.Conclusions.{newAt, placeAt, secondAt, droppedAt, claimAt}
+use Rattle.filling.specs.Claims.{othersAt}
 use Rattle.rules.specs.Judging.{thenClaim, concludeAt}
 use Rattle.rules.proofs.Answered.{judgedOf}
 use Rattle.rules.proofs.Meets.{Images, LiteralAt, Meets}
 use Rattle.rules.proofs.Literals.{PartOf, without, at-here, at-none, at-filled, at-none-filled, place-here, place-past, part-others}
 use Rattle.rules.proofs.Concluded.{ClaimAt, Expects, concluded}
+use Rattle.table.specs.Rows.{rowAt}
+use Rattle.rules.specs.Claim.{newAt, droppedAt, claimAt}
+use Rattle.parts.specs.Shapes.{placeAt}
 
 -- The literal at a position, or none.
 pub data Taken (n : ℕ) (c : Clause) : Type 0 where
@@ -52,18 +53,20 @@ pub record TwoParents (rule : Rule) (k : ℕ) (A B : Parent) (i j : ℕ) (p line
   pub meets : (x y : ℕ) (l m : Literal) → LiteralAt p x (width (A .clause)) l → LiteralAt q y (width (B .clause)) m → Meets rule k p x line starts q y others (row l m)
   pub past : (x y : ℕ) → (x ≡ length p + 1) ⊎ (y ≡ length q + 1) → rowAt rule k p x line starts q y others ≡ Misshapen
 
+-- The clause that a conclusion has is over the numbers of the text form.
+pub given-over : (A B : Parent) → Over formedNumber formedSymbol (filled A) → Over formedNumber formedSymbol (filled B) → T (eachTerm formedNumber formedSymbol (A .image 0)) → (i j k : ℕ) (rule : Rule) {g : Agreement} {c : Clause} →
+    conclude A B i j k rule ≡ concludes g c → Over formedNumber formedSymbol c
+given-over A B over over′ image i j k rule e = infers-over formedNumber formedSymbol A B (concludes→infers A B i j k rule e) over over′ image
+
+-- A shape that is another: check 9 answers.
+pub stops : (claim : Clause) (r : Judged) (c : Conclusion) (b : Bool) → r ≡ Misshapen → c ≡ misshapen → thenClaim r b ≡ judgeConclusion c claim
+unfolding thenClaim judgeConclusion
+stops claim r c b e f = rw (e, f)
+
 module _ (A B : Parent) {p line starts q others : List ℕ} (P : PartOf p (A .clause)) (Q : PartOf q (B .clause))
     (G : Images line starts (A .image) (width (A .clause))) (H : Images line others (B .image) (width (B .clause)))
     {pos : ℕ} {claim : Clause} (at : ClaimAt line pos claim)
     (over : Over formedNumber formedSymbol (filled A)) (over′ : Over formedNumber formedSymbol (filled B)) (image : T (eachTerm formedNumber formedSymbol (A .image 0))) where
-  pub given-over : (i j k : ℕ) (rule : Rule) {g : Agreement} {c : Clause} → conclude A B i j k rule ≡ concludes g c → Over formedNumber formedSymbol c
-  given-over i j k rule e = infers-over formedNumber formedSymbol A B (concludes→infers A B i j k rule e) over over′ image
-
-  -- A shape that is another: check 9 answers.
-  pub stops : (r : Judged) (c : Conclusion) (b : Bool) → r ≡ Misshapen → c ≡ misshapen → thenClaim r b ≡ judgeConclusion c claim
-  unfolding thenClaim judgeConclusion
-  stops r c b e f = rw (e, f)
-
   module _ {rule : Rule} {k i j : ℕ} (R : TwoParents rule k A B i j p line starts q others) where
     both-taken : {l m : Literal} {cs ds : Clause} → drop i (A .clause) ≡ l ∷ cs → drop j (B .clause) ≡ m ∷ ds → (c : Conclusion) → R .row l m ≡ c →
         thenClaim (rowAt rule k p (placeAt p i) line starts q (placeAt q j) others) (eqb (claimAt rule k p (length (A .clause)) i (placeAt p i) line starts q (length (B .clause)) j (placeAt q j) others (drop pos line)) (length (drop pos line))) ≡
@@ -71,21 +74,21 @@ module _ (A B : Parent) {p line starts q others : List ℕ} (P : PartOf p (A .cl
     unfolding judgedOf before droppedAt
     both-taken {l} {m} d e misshapen h =
         let M = R .meets (placeAt p i) (placeAt q j) l m (place-here P i d) (place-here Q j e) in
-        stops _ _ _ (M .judged ∙ ap judgedOf h) (R .gives d e ∙ ap (λ z. before z (fillClause (A .image) (without i (A .clause)) ++ fillClause (B .image) (without j (B .clause)))) h)
+        stops claim _ _ _ (M .judged ∙ ap judgedOf h) (R .gives d e ∙ ap (λ z. before z (fillClause (A .image) (without i (A .clause)) ++ fillClause (B .image) (without j (B .clause)))) h)
     both-taken {l} {m} d e (concludes g new) h =
         let M = R .meets (placeAt p i) (placeAt q j) l m (place-here P i d) (place-here Q j e) in
         let f : conclude A B i j k rule ≡ concludes g (new ++ (fillClause (A .image) (without i (A .clause)) ++ fillClause (B .image) (without j (B .clause)))) = R .gives d e ∙ ap (λ z. before z (fillClause (A .image) (without i (A .clause)) ++ fillClause (B .image) (without j (B .clause)))) h in
         concluded rule k p (length (A .clause)) i (placeAt p i) line starts q (length (B .clause)) j (placeAt q j) others new (fillClause (A .image) (without i (A .clause))) (fillClause (B .image) (without j (B .clause))) at
-        (M .claimed g new h (drop pos line)) (rw (R .with-b) (part-others P G i (drop pos line))) (part-others Q H j (drop pos line)) g (M .judged ∙ ap judgedOf h) (given-over i j k rule f)
+        (M .claimed g new h (drop pos line)) (rw (R .with-b) (part-others P G i (drop pos line))) (part-others Q H j (drop pos line)) g (M .judged ∙ ap judgedOf h) (given-over A B over over′ image i j k rule f)
         ∙ ap (λ z. judgeConclusion z claim) (sym f)
 
     pub two-meets : concludeAt rule k p (length (A .clause)) i line starts q (length (B .clause)) j others pos ≡ judgeConclusion (conclude A B i j k rule) claim
-    unfolding concludeAt secondAt
-    two-meets = rw (R .with-b) (go (take-at i (A .clause)) (take-at j (B .clause)))
+    unfolding concludeAt
+    two-meets = go (take-at i (A .clause)) (take-at j (B .clause))
       where
         go : Taken i (A .clause) → Taken j (B .clause) →
             thenClaim (rowAt rule k p (placeAt p i) line starts q (placeAt q j) others) (eqb (claimAt rule k p (length (A .clause)) i (placeAt p i) line starts q (length (B .clause)) j (placeAt q j) others (drop pos line)) (length (drop pos line))) ≡
             judgeConclusion (conclude A B i j k rule) claim
         go (taken l cs d) (taken m ds e) = both-taken d e (R .row l m) refl
-        go (absent d) t = stops _ _ _ (R .past _ _ (inl (place-past P i d))) (R .lacks (inl d))
-        go (taken l cs d) (absent e) = stops _ _ _ (R .past _ _ (inr (place-past Q j e))) (R .lacks (inr e))
+        go (absent d) t = stops claim _ _ _ (R .past _ _ (inl (place-past P i d))) (R .lacks (inl d))
+        go (taken l cs d) (absent e) = stops claim _ _ _ (R .past _ _ (inr (place-past Q j e))) (R .lacks (inr e))

@@ -27,7 +27,7 @@ use Rattle.text.specs.Write.{word, putTerm, putTerms, putArguments, putResult, 
 use Rattle.text.specs.Form.{depthOfs, numbereds, formedTerm, formedTerms, formedResult, formedAtom, formedLiteral}
 use Rattle.text.specs.Read.{Parsed, bad, got, strip}
 use Rattle.text.specs.Places.{endOf}
-use Rattle.text.specs.Access.{opening, toArgument}
+use Rattle.text.specs.Access.{opening, toArgument, toOccurrence}
 use Rattle.text.proofs.Nesting.{fromItem, listed, terms-each, argument-item}
 use Rattle.text.proofs.Trees.{join-width}
 use Rattle.text.proofs.Tests.{T-and, onTest}
@@ -35,11 +35,14 @@ use Rattle.text.proofs.Gives.{Gives, nothing, gives}
 use Rattle.text.proofs.Positions.{Tail, End, end-refl, strip-tail, skip-tail, item-tail, and-tail}
 use Rattle.text.specs.Heads.{linkKind, arrowKind, kindNumber, head}
 use Rattle.text.proofs.Heads.{afterHead}
-use Rattle.rules.specs.Shapes.{stripAt, nextAt, positiveAt, firstAt, orElse, ifPlace, resultAt, objectAt, argumentAt, targetAt}
-use Rattle.rules.specs.Filled.{Filler, fillItem}
-use Rattle.rules.proofs.Holes.{stack}
-use Rattle.rules.proofs.Placed.{Argument as Chosen, first, next, replaced, hole-second, hole-object, hole-argument, hole-result}
-use Rattle.rules.proofs.Placing.{Stands, walk-stands, walk-past, none-past, fromMethod, past-inner, past-object, past-result, result-stands, either-past, either-stands, object-of, object-none, next-term, past-next, past-strip, positive-stands, negative-past, head-stands, head-past}
+use Rattle.parts.specs.Shapes.{stripAt, nextAt, positiveAt, firstAt, orElse, ifPlace, resultAt, objectAt, argumentAt}
+use Rattle.filling.specs.Filled.{Filler, fillItem}
+use Rattle.filling.proofs.Holes.{stack}
+use Rattle.filling.proofs.Placed.{Argument as Chosen, first, next, replaced, hole-second, hole-object, hole-argument, hole-result}
+use Rattle.parts.proofs.Placing.{Stands, walk-stands, walk-past, none-past, fromMethod, past-inner, past-object, past-result, result-stands, either-past, either-stands, object-of, object-none, next-term, past-next, past-strip, positive-stands, negative-past, head-stands, head-past}
+use Rattle.table.specs.declared.rows.Target.{Target as Part}
+use Rattle.table.specs.declared.rows.Target.the-variants.{Nothing, Occurrence, Subclass, Member, Object as Owner, Argument as Input, Result as Output}
+use Rattle.table.specs.Rows.{targetAt, partAt}
 
 -- A target of the literal l, which `rest` follows: it is formed, its variables are below w, and filling with the hole at it, which `left` follows, puts
 -- another term in its place.
@@ -230,20 +233,15 @@ module _ (p : List ℕ) where
   unfolding objectAt
   past-object-at = rw past-positive past-signature
 
-  pub past-target : (rule : Rule) (k : ℕ) → targetAt p rule k (length p + 1) ≡ length p + 1
-  unfolding targetAt
-  past-target Refl k = refl
-  past-target Res k = refl
-  past-target Fac k = refl
-  past-target Par k = refl
-  past-target Acy k = refl
-  past-target Tra k = past-second Sub
-  past-target Inc k = past-second Mem
-  past-target Inh k = past-object-at
-  past-target Inp k = ap (λ o. argumentAt p (nextAt p (nextAt p o)) k) past-object-at ∙ past-input k
-  past-target Out k = ap (resultAt p) past-object-at ∙ past-result p
-  past-target Sca k = refl
-  past-target Eli k = refl
+  pub past-target : (t : Part) (k : ℕ) → partAt t k p (length p + 1) ≡ length p + 1
+  unfolding partAt toOccurrence strip
+  past-target Nothing k = refl
+  past-target Occurrence k = none-past p (toOccurrence k) refl
+  past-target Subclass k = past-second Sub
+  past-target Member k = past-second Mem
+  past-target Owner k = past-object-at
+  past-target Input k = ap (λ o. argumentAt p (nextAt p (nextAt p o)) k) past-object-at ∙ past-input k
+  past-target Output k = ap (resultAt p) past-object-at ∙ past-result p
 
 -- Where the targets of a literal stand.
 module _ (p : List ℕ) (w : ℕ) where
@@ -272,12 +270,12 @@ module _ (p : List ℕ) (w : ℕ) where
   Aimed rule = (at k : ℕ) (l : Literal) (rest : List ℕ) → Stands p at (putLiteral l rest) → T (formedLiteral 16 l) → width (l ∷ []) ≤ w → Placed p (targetAt p rule k at) w l rest (aim k rule l)
 
   pub tra-placed : Aimed Tra
-  unfolding targetAt firstAt aim
+  unfolding partAt firstAt aim
   tra-placed at k l rest =
       positive-placed l rest (λ at. nextAt p (stripAt p (head 2) at)) (linkAim Sub) (past-link p Sub) (λ x at i s. link-placed Sub x rest i s)
 
   pub inc-placed : Aimed Inc
-  unfolding targetAt firstAt aim
+  unfolding partAt firstAt aim
   inc-placed at k l rest =
       positive-placed l rest (λ at. nextAt p (stripAt p (head 1) at)) (linkAim Mem) (past-link p Mem) (λ x at i s. link-placed Mem x rest i s)
 
@@ -302,12 +300,12 @@ module _ (p : List ℕ) (w : ℕ) where
 
   -- The three places that are aimed at in a signature.
   pub inh-placed : Aimed Inh
-  unfolding targetAt objectAt aim objectAim
+  unfolding partAt objectAt aim objectAim
   inh-placed at k l rest =
       positive-placed l rest (signatureFrom p) _ (past-signature p) (λ x at i s. method-placed x rest (λ o. o) objectAim refl (λ a o m ts r at i v. found _ _ v (object-hole w rest a o m ts r i)) i s)
 
   pub out-placed : Aimed Out
-  unfolding targetAt objectAt aim outputAim putResult
+  unfolding partAt objectAt aim outputAim putResult
   out-placed at k l rest =
       positive-placed l rest (λ at. resultAt p (signatureFrom p at)) _ (ap (resultAt p) (past-signature p) ∙ past-result p) (λ x at i s.
       method-placed x rest (resultAt p) outputAim (past-result p) (λ a o m ts r at i v. found _ _ (result-stands p o m ts (value r) (word ")" rest) v) (result-hole w rest a o m ts r i)) i s)
@@ -328,7 +326,7 @@ module _ (p : List ℕ) (w : ℕ) where
       go e (present c) = found _ _ (walk-stands p at (argument-tail k) s e) (argument-hole w rest a o m ts r i c)
 
   pub inp-placed : Aimed Inp
-  unfolding targetAt objectAt aim
+  unfolding partAt objectAt aim
   inp-placed at k l rest =
       let f : ℕ → ℕ = λ o. argumentAt p (nextAt p (nextAt p o)) k in
       positive-placed l rest (λ at. f (signatureFrom p at)) _ (ap f (past-signature p) ∙ past-input p k) (λ x at i s.

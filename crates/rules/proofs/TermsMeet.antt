@@ -23,19 +23,19 @@ use Rattle.text.specs.Form.{numbered, numbereds, formedTerm, formedTerms, forme
 use Rattle.text.proofs.Plain.{in-front, term-plain}
 use Rattle.text.proofs.Tests.{T-and}
 use Rattle.text.proofs.Trees.{join-width}
-use Rattle.rules.specs.Filled.{fillItem, replacing, matches, endsOf}
-use Rattle.rules.specs.Shapes.{stripAt, nextAt, resultAt}
-use Rattle.rules.specs.Claims.{filledAt, linkedAt}
-use Rattle.rules.specs.Rows.{agreeAt, callsAt}
-use Rattle.rules.specs.Table.{rowAt}
-use Rattle.rules.specs.Conclusions.{newAt}
-use Rattle.rules.proofs.Filling.{after-it, fill-term}
-use Rattle.rules.proofs.Placing.{Stands, fromMethod, next-term, result-stands}
-use Rattle.rules.proofs.Claimed.{Entries, strip-chain, match-place}
-use Rattle.rules.proofs.Agreed.{terms-agree, arguments-agree}
+use Rattle.filling.specs.Filled.{fillItem, plain, matches, endsOf}
+use Rattle.parts.specs.Shapes.{stripAt, nextAt, resultAt}
+use Rattle.filling.specs.Claims.{filledAt, linkedAt}
+use Rattle.filling.proofs.Filling.{after-it, fill-term}
+use Rattle.parts.proofs.Placing.{Stands, fromMethod, next-term, result-stands}
+use Rattle.filling.proofs.Claimed.{Entries, strip-chain, match-place}
+use Rattle.filling.proofs.Agreed.{terms-agree, arguments-agree}
 use Rattle.rules.proofs.Answered.{judgedOf}
-use Rattle.rules.proofs.NumberedFill.{fill-numbered, fills-numbered, term-deeper, terms-deeper}
+use Rattle.filling.proofs.NumberedFill.{fill-numbered, fills-numbered, term-deeper, terms-deeper}
 use Rattle.rules.proofs.Meets.{Images, Meets}
+use Rattle.filling.specs.Agree.{agreeAt, callsAt}
+use Rattle.table.specs.Rows.{rowAt}
+use Rattle.rules.specs.Claim.{newAt}
 
 -- A term, and a list of arguments, that stand at a place of p, formed, their variables below w.
 pub record TermAt (p : List ℕ) (at : ℕ) (w : ℕ) (t : Term) : Type 0 where
@@ -112,10 +112,10 @@ module _ {line starts others : List ℕ} {σ τ : Substitution} {v w : ℕ} (g :
 -- A filled term, expected.
 pub term-claimed : (line starts target : List ℕ) (σ : Substitution) (w : ℕ) → Entries line starts σ w → {p : List ℕ} {at : ℕ} {t : Term} → TermAt p at w t → (pos : ℕ) →
     filledAt p at line starts target pos ≡ stripAt target (putTerm (fill σ t) []) pos
-unfolding filledAt stripAt replacing
+unfolding filledAt stripAt plain
 term-claimed line starts target σ w entry {p} {at} {t} a pos =
     ap (λ q. endsOf p target (matches q (drop pos target)) .pos)
-    (ap (fillItem (replacing line starts 0 [] 0 starts) 19) (a .stands .bytes-there) ∙ fill-term (replacing line starts 0 [] 0 starts) σ w 19 entry t (term-deeper 16 19 t (omega arith) (a .formed)) (a .narrow) (a .rest) (after-it (omega arith)))
+    (ap (fillItem (plain line starts) 19) (a .stands .bytes-there) ∙ fill-term (plain line starts) σ w 19 entry t (term-deeper 16 19 t (omega arith) (a .formed)) (a .narrow) (a .rest) (after-it (omega arith)))
     ∙ match-place p target (putTerm (fill σ t) []) (a .rest) (drop pos target)
 
 -- A term is written from an open bracket on.

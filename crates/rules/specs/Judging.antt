@@ -1,44 +1,32 @@
--- Checks 7 to 11 of a step in bytes, and what they are to be: `judge` of the definitions.
-use Prim.Native.Nat.{ℕ}
-use mathlib.Core.Bool.{Bool, true, false, cond, _&&_}
-use mathlib.Core.List.{List, []}
+-- Checks 7 to 11 of a step in bytes, over the parts of the text that begin with its parents, and what the answer means.
+use Prim.Native.Nat.{ℕ, _≤_, _<_}
 use mathlib.Core.Path.{_≡_}
-use lib.Dec.{eqb}
+use mathlib.Core.Bool.{Bool, cond, _&&_}
+use mathlib.Core.List.{List, []}
+use lib.Dec.{T, eqb}
 use lib.ListN.{length, drop, getD}
 use Rattle.logic.specs.declared.Rule.{Rule}
 use Rattle.logic.specs.declared.Judged.{Judged}
 use Rattle.logic.specs.declared.Judged.the-variants.{Passed, NoParent, WrongNumber, Misshapen, Disagrees, WrongClaim}
-use Rattle.logic.specs.Syntax.{Step, by}
+use Rattle.logic.specs.Syntax.{Clause, Step, by}
+use Rattle.logic.specs.Terms.{count}
+use Rattle.logic.specs.Each.{width}
 use Rattle.logic.specs.Rules.{uses}
 use Rattle.logic.specs.Judge.{judge}
-use Rattle.lines.specs.declared.forms.LineAt.{LineAt}
-use Rattle.reader.specs.declared.states.State as code
-use Rattle.text.specs.Words.{bytes}
+use Rattle.text.specs.Write.{putClause}
+use Rattle.text.specs.Form.{formedClause}
 use Rattle.text.specs.Read.{form, readLine}
-use Rattle.text.specs.Access.{places}
+use Rattle.lines.specs.declared.forms.LineAt.{LineAt}
 use Rattle.lines.specs.LineAt.{lineOf}
-use Rattle.reader.specs.State.{State, clauses}
-use Rattle.reader.specs.Represents.{Represents, readFailure}
-use Rattle.rules.specs.Uses.{parentNumbers, unusedNumbers}
-use Rattle.rules.specs.Shapes.{stripAt}
-use Rattle.rules.specs.Table.{rowAt}
-use Rattle.rules.specs.Conclusions.{placeAt, secondAt, claimAt}
-
--- A parent is the part of the text that begins with its clause; an unused parent is no bytes.
-unfoldable pub partAt : List ℕ → List ℕ → Bool → ℕ → List ℕ
-partAt text starts used n = cond used (drop (getD starts n 0) text) []
-
--- Its number of literals, or its highest variable plus 1; an unused parent has none.
-unfoldable pub sizeAt : List ℕ → Bool → ℕ → ℕ
-sizeAt sizes used n = cond used (getD sizes n 0) 0
-
--- The places of the entries of the list that begins at `at`.
-unfoldable pub listAt : List ℕ → ℕ → List ℕ
-listAt line at = places line 33 (stripAt line (bytes "(let") at)
+use Rattle.parts.specs.Shapes.{placeAt, listAt}
+use Rattle.rules.specs.declared.steps.Size.{Size}
+use Rattle.table.specs.Uses.{parentNumbers, unusedNumbers}
+use Rattle.table.specs.Rows.{rowAt}
+use Rattle.rules.specs.Claim.{claimAt}
 
 -- "A used parent's list has exactly its highest variable plus 1 terms (0 without variables); an unused one's has none, save for refl"
 unfoldable pub listsAt : Rule → ℕ → ℕ → ℕ → ℕ → Bool
-listsAt rule firsts seconds a b = eqb firsts (cond (uses rule .a) a 1) && eqb seconds b
+listsAt rule firsts seconds v w = eqb firsts (cond (uses rule .a) v 1) && eqb seconds (cond (uses rule .b) w 0)
 
 -- Check 11 comes after 9 and 10.
 unfoldable pub thenClaim : Judged → Bool → Judged
@@ -53,7 +41,7 @@ thenClaim WrongClaim claimed = WrongClaim
 unfoldable pub concludeAt : Rule → ℕ → List ℕ → ℕ → ℕ → List ℕ → List ℕ → List ℕ → ℕ → ℕ → List ℕ → ℕ → Judged
 concludeAt rule k p n i line starts q m j others pos =
     let x = placeAt p i in
-    let y = secondAt (uses rule .b) p q j in
+    let y = placeAt q j in
     let rest = drop pos line in
     thenClaim (rowAt rule k p x line starts q y others) (eqb (claimAt rule k p n i x line starts q m j y others rest) (length rest))
 
@@ -61,32 +49,29 @@ concludeAt rule k p n i line starts q m j others pos =
 unfoldable pub settledAs : Bool → Bool → Judged → Judged
 settledAs parents numbers answer = cond parents (cond numbers answer WrongNumber) NoParent
 
--- A step, as it was read, with the parts of the text that begin with its parents, of n and m literals and of widths v and w; `own` is its own
--- number.
-unfoldable pub stepAt : ℕ → List ℕ → ℕ → ℕ → List ℕ → ℕ → ℕ → List ℕ → LineAt → Judged
-stepAt own p n v q m w line l =
-    let numbers = unusedNumbers (l .rule) (l .a) (l .i) (l .b) (l .j) (l .k) && listsAt (l .rule) (l .firsts) (l .seconds) v w in
-    settledAs (parentNumbers (l .rule) own (l .a) (l .b)) numbers
-    (concludeAt (l .rule) (l .k) p n (l .i) line (listAt line (l .first)) q m (l .j) (listAt line (l .second)) (l .clause))
+-- A step, as it was read, over the parts of the text that begin with its parents; `own` is its own number. An unused parent has no literals.
+-- "\"At I\" is in A, \"at J\" in B; for fac both are in A": where B is unused, A stands for it.
+unfoldable pub stepAt : ℕ → List ℕ → Size → List ℕ → Size → List ℕ → LineAt → Judged
+stepAt own p a q b line l =
+    let first = listAt line (l .first) in
+    let second = listAt line (l .second) in
+    let n = cond (uses (l .rule) .a) (a .literals) 0 in
+    let two = concludeAt (l .rule) (l .k) p n (l .i) line first q (b .literals) (l .j) second (l .clause) in
+    let one = concludeAt (l .rule) (l .k) p n (l .i) line first p 0 (l .j) first (l .clause) in
+    let numbers = unusedNumbers (l .rule) (l .a) (l .i) (l .b) (l .j) (l .k) && listsAt (l .rule) (l .firsts) (l .seconds) (a .width) (b .width) in
+    settledAs (parentNumbers (l .rule) own (l .a) (l .b)) numbers (cond (uses (l .rule) .b) two one)
 
--- The parents by the places, the numbers of literals and the widths of the clauses before.
-unfoldable pub partsAt : List ℕ → List ℕ → List ℕ → List ℕ → ℕ → List ℕ → LineAt → Judged
-partsAt text starts literals widths own line l =
-    let a = uses (l .rule) .a in
-    let b = uses (l .rule) .b in
-    stepAt own (partAt text starts a (l .a)) (sizeAt literals a (l .a)) (sizeAt widths a (l .a)) (partAt text starts b (l .b)) (sizeAt literals b (l .b)) (sizeAt widths b (l .b)) line l
-
-unfoldable pub judgeAt : List ℕ → code.State → List ℕ → Judged
-judgeAt text held line = partsAt text (held .starts) (held .literals) (held .widths) (held .clauses) line (lineOf [] line (readLine 16 line))
+-- A part of a text that begins with a clause, formed; its number of literals and its width are these.
+pub record Holds (p : List ℕ) (s : Size) (c : Clause) : Type 0 where
+  pub rest : List ℕ
+  pub written : p ≡ putClause c rest
+  pub formed : T (formedClause 16 c)
+  pub literals : s .literals ≡ length c
+  pub narrow : s .width ≡ width c
 
 -- "A step passes checks 7 to 11 exactly when document 01's rules give its claim from its parents by its numbers under its two lists":
--- where the state represents what was read of the text, and the line is a step that passes checks 2 to 6, the answer is `judge`.
-unfoldable pub Judges : List ℕ → code.State → List ℕ → Judged → Type 0
-Judges text held line r =
-    (st : State) (s : Step) → Represents text held st → readLine 16 line ≡ form (by s) → readFailure st (form (by s)) ≡ 0 → r ≡ judge (clauses st) s
-
--- The same over the line as it was read, whichever the table was, by what a state holds of the clauses.
-unfoldable pub JudgesRead : List ℕ → List ℕ → List ℕ → List ℕ → ℕ → List ℕ → LineAt → Judged → Type 0
-JudgesRead text starts literals widths own line l r =
-    (held : code.State) (st : State) (s : Step) (table : List ℕ) → starts ≡ held .starts → literals ≡ held .literals → widths ≡ held .widths → own ≡ held .clauses →
-    l ≡ lineOf table line (form (by s)) → Represents text held st → readLine 16 line ≡ form (by s) → readFailure st (form (by s)) ≡ 0 → r ≡ judge (clauses st) s
+-- where the line is the step s, its lists within the limit, and the parts hold the clauses that it names, if there are such, the answer is `judge`.
+unfoldable pub Judges : ℕ → List ℕ → Size → List ℕ → Size → List ℕ → LineAt → Judged → Type 0
+Judges own p a q b line l r =
+    (cs : List Clause) (s : Step) (table : List ℕ) → own ≡ length cs → (s .a < length cs → Holds p a (getD cs (s .a) [])) → (s .b < length cs → Holds q b (getD cs (s .b) [])) →
+    l ≡ lineOf table line (form (by s)) → readLine 16 line ≡ form (by s) → count (s .first) ≤ 32 → count (s .second) ≤ 32 → r ≡ judge cs s

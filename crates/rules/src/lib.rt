@@ -1,10 +1,3 @@
-// The rules: checks 7 to 11. Their definitions are in specs/, their laws in proofs/.
+// The step check: checks 7 to 11. Its definitions are in specs/, its laws in proofs/.
 mod claims;
-mod compare;
-mod conclusions;
-mod covering;
-mod rows;
-mod shapes;
 pub mod steps;
-mod table;
-mod uses;

@@ -1,117 +1,95 @@
 // Checks 7 to 11 of a step.
-use crate::conclusions::claim;
-use crate::conclusions::place;
-use crate::conclusions::second;
-use crate::rows::choose;
-use crate::table::row;
-use crate::uses::parents_below;
-use crate::uses::unused_zero;
-use crate::uses::used;
+use crate::claims::Kept;
+use crate::claims::claimed;
 use lines::forms::LineAt;
-use lines::forms::line as read_form;
-use lines::summaries::both;
 use logic::Judged;
 use logic::Rule;
-use reader::states::State;
-use scan::access::starts;
+use parts::shapes::both;
+use parts::shapes::list;
+use parts::shapes::literal;
+use parts::shapes::positive;
+use parts::shapes::within;
 use scan::texts::clause_part;
-use scan::words::word;
+use table::rows::agrees;
+use table::rows::choose;
+use table::rows::find;
+use table::rows::table_row;
+use table::uses::parents_below;
+use table::uses::unused_zero;
+use table::uses::used;
 ghost use mathlib.Core.Path.{_≡_};
-ghost use lib.ListN.{getD};
-ghost use Rattle.rules.specs.Judging.{partAt, sizeAt, listAt, listsAt, thenClaim, concludeAt, settledAs, stepAt, partsAt, judgeAt, Judges, JudgesRead};
+ghost use Rattle.table.specs.Rows.{answer};
+ghost use Rattle.rules.specs.Claim.{droppedAt};
+ghost use Rattle.rules.specs.Judging.{listsAt, thenClaim, concludeAt, settledAs, stepAt, Judges};
 
-// The place of clause n, or 0.
-fn start(places: &[u16], n: usize) -> usize
-    ensures { λ r. ⌜ r ≡ getD (now (places .entry)) n 0 ⌝ }
-{
-    if n >= places.len() {
-        return 0;
-    }
-    places[n] as usize
-}
-
-// The part of the text that begins with clause n; no bytes for an unused parent.
-fn parent<'a>(text: &'a [u8], places: &[u16], is_used: bool, n: usize) -> &'a [u8]
-    ensures { λ r. ⌜ now r ≡ partAt (now (text .entry)) (now (places .entry)) «is_used» n ⌝ }
-{
-    let at = start(places, n);
-    if is_used {
-        return clause_part(text, at);
-    }
-    &text[0..0]
-}
-
-// The number of literals of clause n, or its width; 0 for an unused parent.
-fn size(sizes: &[u8], is_used: bool, n: usize) -> usize
-    ensures { λ r. ⌜ r ≡ sizeAt (now (sizes .entry)) «is_used» n ⌝ }
-{
-    if !is_used {
-        return 0;
-    }
-    if n >= sizes.len() {
-        return 0;
-    }
-    sizes[n] as usize
-}
-
-// The places of the entries of the list that begins at `at`.
-fn list(line: &[u8], at: usize) -> [usize; 33]
-    ensures { λ r. ⌜ r ≡ listAt (now (line .entry)) at ⌝ }
-{
-    starts(line, word(line, at, b"(let"))
+// Of a parent its number of literals, and its highest variable plus 1.
+pub struct Size {
+    pub literals: usize,
+    pub width: usize,
 }
 
 // The second part of check 8: "a list has the wrong length".
-fn lists_fit(rule: Rule, firsts: usize, seconds: usize, a: usize, b: usize) -> bool
-    ensures { λ r. ⌜ r ≡ listsAt rule firsts seconds a b ⌝ }
+fn lists_fit(rule: Rule, firsts: usize, seconds: usize, v: usize, w: usize) -> bool
+    ensures { λ r. ⌜ r ≡ listsAt rule firsts seconds v w ⌝ }
 {
-    let wanted = choose(used(rule, 0), a, 1);
-    both(firsts == wanted, seconds == b)
+    let one = choose(used(rule, 0), v, 1);
+    let two = choose(used(rule, 2), w, 0);
+    both(firsts == one, seconds == two)
 }
 
-// Check 11 comes after 9 and 10.
-fn then_claim(answer: Judged, claimed: bool) -> Judged
-    ensures { λ r. ⌜ r ≡ thenClaim answer claimed ⌝ }
+// The literal of A that the claim lacks; the literal at I stands at x.
+fn dropped(uses_b: bool, a: &[u8], x: usize, i: usize, j: usize) -> usize
+    ensures { λ r. ⌜ r ≡ droppedAt «uses_b» (now (a .entry)) x i j ⌝ }
 {
-    match answer {
-        Judged::Passed => {
-            if claimed {
+    let other = choose(within(a, positive(a, x)), j, i);
+    choose(uses_b, i, other)
+}
+
+// The first of checks 9, 10 and 11 that fails.
+fn judged(shaped: bool, agreed: bool, claims: bool) -> Judged
+    ensures { λ r. ⌜ r ≡ thenClaim (answer shaped agreed) claims ⌝ }
+{
+    if shaped {
+        if agreed {
+            if claims {
                 Judged::Passed
             } else {
                 Judged::WrongClaim
             }
+        } else {
+            Judged::Disagrees
         }
-        Judged::NoParent => Judged::NoParent,
-        Judged::WrongNumber => Judged::WrongNumber,
-        Judged::Misshapen => Judged::Misshapen,
-        Judged::Disagrees => Judged::Disagrees,
-        Judged::WrongClaim => Judged::WrongClaim,
+    } else {
+        Judged::Misshapen
     }
 }
 
-// Checks 9 to 11 of a rule and its numbers, over parents of n and m literals and two lists; the claim begins at `pos`.
-pub fn conclude(
-    rule: Rule,
-    k: usize,
-    p: &[u8],
+// Checks 9 to 11 of a step, over its parents of n and m literals and its lists.
+fn conclude(
+    l: LineAt,
+    a: &[u8],
     n: usize,
-    i: usize,
-    line: &[u8],
-    starts: &[usize],
-    q: &[u8],
+    first: &[usize],
+    b: &[u8],
     m: usize,
-    j: usize,
-    others: &[usize],
-    pos: usize,
+    second: &[usize],
+    line: &[u8],
 ) -> Judged
-    ensures { λ r. ⌜ r ≡ concludeAt rule k (now (p .entry)) n i (now (line .entry)) (now (starts .entry)) (now (q .entry)) m j (now (others .entry)) pos ⌝ }
+    ensures { λ r. ⌜ r ≡ concludeAt (l .rule) (l .k) (now (a .entry)) n (l .i) (now (line .entry)) (now (first .entry)) (now (b .entry)) m (l .j) (now (second .entry)) (l .clause) ⌝ }
 {
-    let x = place(p, i);
-    let y = second(used(rule, 2), p, q, j);
-    let answer = row(rule, k, p, x, line, starts, q, y, others);
-    let rest = clause_part(line, pos);
-    let end = claim(rule, k, p, n, i, x, line, starts, q, m, j, y, others, rest);
-    then_claim(answer, end == rest.len())
+    let rule = l.rule;
+    let x = literal(a, l.i);
+    let y = literal(b, l.j);
+    let f = find(table_row(rule), l.k, a, x, b, y);
+    let kept = Kept {
+        a: n,
+        i: dropped(used(rule, 2), a, x, l.i, l.j),
+        b: m,
+        j: l.j,
+    };
+    let rest = clause_part(line, l.clause);
+    let claims = claimed(f, kept, a, first, b, second, line, rest);
+    judged(f.shaped, agrees(f, a, first, b, second, line), claims)
 }
 
 // Checks 7 and 8 come before.
@@ -125,76 +103,31 @@ fn settled(parents: bool, numbers: bool, answer: Judged) -> Judged
     }
 }
 
-// Checks 7 to 11 of a step that was read, over the parts of the text that begin with its parents, of n and m literals and of widths v and w; `own` is its own number.
-pub fn step(
+// Checks 7 to 11 of a step that was read, over the parts of the text that begin with the clauses that it names as A and B; `own` is its own
+// number. Where B is unused, A stands for it.
+pub fn judge(
     own: usize,
-    p: &[u8],
-    n: usize,
-    v: usize,
-    q: &[u8],
-    m: usize,
-    w: usize,
+    a: &[u8],
+    of_a: Size,
+    b: &[u8],
+    of_b: Size,
     line: &[u8],
     l: LineAt,
 ) -> Judged
-    ensures { λ r. ⌜ r ≡ stepAt own (now (p .entry)) n v (now (q .entry)) m w (now (line .entry)) l ⌝ }
+    ensures { λ r. ⌜ r ≡ stepAt own (now (a .entry)) «of_a» (now (b .entry)) «of_b» (now (line .entry)) l ⌝ }
+    ensures { λ r. ⌜ Judges own (now (a .entry)) «of_a» (now (b .entry)) «of_b» (now (line .entry)) l r ⌝ }
 {
     let rule = l.rule;
     let first = list(line, l.first);
     let second = list(line, l.second);
     let zero = unused_zero(rule, l.a, l.i, l.b, l.j, l.k);
-    let fit = lists_fit(rule, l.firsts, l.seconds, v, w);
+    let fit = lists_fit(rule, l.firsts, l.seconds, of_a.width, of_b.width);
     let below = parents_below(rule, own, l.a, l.b);
-    let answer = conclude(
-        rule,
-        l.k,
-        p,
-        n,
-        l.i,
-        line,
-        &first,
-        q,
-        m,
-        l.j,
-        &second,
-        l.clause,
-    );
-    settled(below, both(zero, fit), answer)
-}
-
-// Checks 7 to 11 of the step on a line that is read, with the parents from the text by what the state before the line holds of each clause.
-pub fn judge_read(
-    text: &[u8],
-    places: &[u16],
-    literals: &[u8],
-    widths: &[u8],
-    own: usize,
-    line: &[u8],
-    l: LineAt,
-) -> Judged
-    ensures { λ r. ⌜ r ≡ partsAt (now (text .entry)) (now (places .entry)) (now (literals .entry)) (now (widths .entry)) own (now (line .entry)) l ⌝ }
-    ensures { λ r. ⌜ JudgesRead (now (text .entry)) (now (places .entry)) (now (literals .entry)) (now (widths .entry)) own (now (line .entry)) l r ⌝ }
-{
-    let rule = l.rule;
-    let first = used(rule, 0);
-    let second = used(rule, 2);
-    let p = parent(text, places, first, l.a);
-    let q = parent(text, places, second, l.b);
-    let n = size(literals, first, l.a);
-    let m = size(literals, second, l.b);
-    let v = size(widths, first, l.a);
-    let w = size(widths, second, l.b);
-    step(own, p, n, v, q, m, w, line, l)
-}
-
-// Checks 7 to 11 of the step that the line is.
-pub fn judge(text: &[u8], state: State, line: &[u8]) -> Judged
-    ensures { λ r. ⌜ r ≡ judgeAt (now (text .entry)) state (now (line .entry)) ⌝ }
-    ensures { λ r. ⌜ Judges (now (text .entry)) state (now (line .entry)) r ⌝ }
-{
-    let l = read_form(line, &line[0..0]);
-    let places = state.starts;
-    let literals = state.literals;
-    let widths = state.widths;
-    judge_read(text, &places, &literals, &widths, state.clauses, line, l)
+    let n = choose(used(rule, 0), of_a.literals, 0);
+    if used(rule, 2) {
+        let two = conclude(l, a, n, &first, b, of_b.literals, &second, line);
+        return settled(below, both(zero, fit), two);
+    }
+    let one = conclude(l, a, n, &first, a, 0, &first, line);
+    settled(below, both(zero, fit), one)
 }

@@ -1,6 +1,5 @@
-// Finding words, numbers, items, entries and lines in bytes. The definitions are in specs/ and in the crate `text`.
-pub mod access;
-pub mod kinds;
+// Finding words, numbers and lines in bytes. The definitions are in specs/ and in the crate `text`.
+mod kinds;
 pub mod numbers;
 pub mod tables;
 pub mod texts;

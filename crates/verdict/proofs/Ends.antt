@@ -1,7 +1,8 @@
--- Where the text ends: the first empty clause in bytes, and the answer.
+-- Where the text ends: the first clause without literals, and the answer.
 use Prim.Native.Nat.{ℕ, suc, _+_, _≤_, _<_}
-use mathlib.Core.Bool.{Bool, true, false, cond, true≢false}
+use mathlib.Core.Bool.{Bool, true, false, cond}
 use mathlib.Core.List.{List, [], _∷_}
+use mathlib.Core.Logic.{_⊎_, inl, inr, ⊎-elim}
 use mathlib.Core.Path.{_≡_, refl, sym, ap, _∙_}
 use native.Mathlib.Omega.{arith}
 use native.Mathlib.Numerals.{add-one}
@@ -10,80 +11,56 @@ use lib.ListN.{length, getD, take, drop, length-take, drop-of-length-le}
 use lib.Seq.{drop-cons}
 use Rattle.logic.specs.Syntax.{Clause}
 use Rattle.reader.specs.declared.states.State as code
-use Rattle.text.specs.Write.{putLiterals, putClause}
-use Rattle.text.specs.Read.{strip}
-use Rattle.text.specs.Places.{endOf}
 use Rattle.reader.specs.State.{State, clauses, hasConstant}
 use Rattle.reader.specs.ReadLine.{heldTable}
-use Rattle.reader.specs.Represents.{Stands, Represents}
+use Rattle.reader.specs.Represents.{Represents}
 use Rattle.verdict.specs.declared.Verdict.the-variants.{Refuted, Open, Refused}
 use Rattle.verdict.specs.Answer.{isNil, firstEmpty, answer, finish}
 
--- "CLAUSE is `(or LIT ...)`, perhaps `(or)`."
-abbrev pub emptyWord : List ℕ
-emptyWord = 40 ∷ 111 ∷ 114 ∷ 41 ∷ []
+-- A clause without literals.
+nil-or-not : (c : Clause) → ((length c ≡ 0) × (isNil c ≡ true)) ⊎ ((length c ≡ 0 → ⊥) × (isNil c ≡ false))
+unfolding isNil
+nil-or-not [] = inl (refl, refl)
+nil-or-not (l ∷ c) = inr (λ e. omega arith, refl)
 
--- The place after that word, or past the end of the text.
-abbrev pub emptyEnd : List ℕ → ℕ → ℕ
-emptyEnd text at = endOf text (strip emptyWord (drop at text))
+no-literal : (c : Clause) → length c ≡ 0 → isNil c ≡ true
+no-literal c e = ⊎-elim (λ w. w .1) (λ w. absurd (w .0 e)) (nil-or-not c)
 
-module _ {text : List ℕ} {at : ℕ} where
-  -- The word stands exactly where an empty clause does.
-  empty-end : (c : Clause) → Stands text at c → isNil c ≡ true → emptyEnd text at ≤ length text
-  unfolding strip endOf putClause putLiterals isNil
-  empty-end [] S e = rw (S .written) (omega arith)
-  empty-end (l ∷ c) S e = absurd (true≢false (sym e))
+some-literal : (c : Clause) → (length c ≡ 0 → ⊥) → isNil c ≡ false
+some-literal c n = ⊎-elim (λ w. absurd (n (w .0))) (λ w. w .1) (nil-or-not c)
 
-  other-end : (c : Clause) → Stands text at c → isNil c ≡ false → emptyEnd text at ≡ length text + 1
-  unfolding strip endOf putClause putLiterals isNil
-  other-end [] S e = absurd (true≢false e)
-  other-end (l ∷ c) S e = rw (S .written)
+-- The numbers are those of the clauses' literals.
+abbrev pub Counts : List ℕ → List Clause → Type 0
+Counts sizes cs = (m : ℕ) → m < length cs → getD sizes m 0 ≡ length (getD cs m [])
 
-  is-empty : (c : Clause) → Stands text at c → emptyEnd text at ≤ length text → isNil c ≡ true
-  is-empty c S h = go (isNil c) refl
-    where
-      go : (b : Bool) → isNil c ≡ b → isNil c ≡ true
-      go true e = e
-      go false e = absurd (omega (arith, other-end c S e))
-
-  not-empty : (c : Clause) → Stands text at c → length text < emptyEnd text at → isNil c ≡ false
-  not-empty c S h = go (isNil c) refl
-    where
-      go : (b : Bool) → isNil c ≡ b → isNil c ≡ false
-      go true e = absurd (omega (arith, empty-end c S e))
-      go false e = e
-
--- The clauses stand in the text, and none of the first n is empty.
-unfoldable pub NoneBefore : List ℕ → List ℕ → ℕ → ℕ → Type 0
-NoneBefore text starts clauses n =
-    (cs : List Clause) → clauses ≡ length cs → ((m : ℕ) → m < length cs → Stands text (getD starts m 0) (getD cs m [])) → firstEmpty cs ≡ n + firstEmpty (drop n cs)
+-- None of the first n clauses is empty.
+unfoldable pub NoneBefore : List ℕ → ℕ → ℕ → Type 0
+NoneBefore sizes clauses n = (cs : List Clause) → clauses ≡ length cs → Counts sizes cs → firstEmpty cs ≡ n + firstEmpty (drop n cs)
 
 first-step : (cs : List Clause) (n : ℕ) → n < length cs → firstEmpty (drop n cs) ≡ cond (isNil (getD cs n [])) 0 (suc (firstEmpty (drop (n + 1) cs)))
 unfolding firstEmpty
 first-step cs n h = rw (add-one, drop-cons cs n [] h)
 
-pub none-passed : (text starts : List ℕ) (held : ℕ) → NoneBefore text starts held 0
+pub none-passed : (sizes : List ℕ) (held : ℕ) → NoneBefore sizes held 0
 unfolding NoneBefore
-none-passed text starts held cs e S = omega arith
+none-passed sizes held cs e S = omega arith
 
-module _ (text starts : List ℕ) (held n : ℕ) where
-  pub one-passed : n < held → length text < emptyEnd text (getD starts n 0) → NoneBefore text starts held n → NoneBefore text starts held (n + 1)
+module _ (sizes : List ℕ) (held n : ℕ) (P : NoneBefore sizes held n) where
+  pub one-passed : n < held → (getD sizes n 0 ≡ 0 → ⊥) → NoneBefore sizes held (n + 1)
   unfolding NoneBefore
-  one-passed l h P cs e S =
-      let b : isNil (getD cs n []) ≡ false = not-empty (getD cs n []) (S n (omega arith)) h in
+  one-passed l h cs e S =
+      let b : isNil (getD cs n []) ≡ false = some-literal (getD cs n []) (λ z. h (S n (omega arith) ∙ z)) in
       P cs e S ∙ rw (first-step cs n (omega arith), b) (omega arith)
 
-  pub empty-found : n < held → emptyEnd text (getD starts n 0) ≤ length text → NoneBefore text starts held n →
-      (cs : List Clause) → held ≡ length cs → ((m : ℕ) → m < length cs → Stands text (getD starts m 0) (getD cs m [])) → n ≡ firstEmpty cs
+  pub empty-found : n < held → getD sizes n 0 ≡ 0 → (cs : List Clause) → held ≡ length cs → Counts sizes cs → n ≡ firstEmpty cs
   unfolding NoneBefore
-  empty-found l h P cs e S =
-      let b : isNil (getD cs n []) ≡ true = is-empty (getD cs n []) (S n (omega arith)) h in
+  empty-found l h cs e S =
+      let b : isNil (getD cs n []) ≡ true = no-literal (getD cs n []) (sym (S n (omega arith)) ∙ h) in
       sym (P cs e S ∙ rw (first-step cs n (omega arith), b) (omega arith))
 
-  pub all-passed : held ≤ n → NoneBefore text starts held n →
-      (cs : List Clause) → held ≡ length cs → ((m : ℕ) → m < length cs → Stands text (getD starts m 0) (getD cs m [])) → n ≡ firstEmpty cs
+  pub all-passed : held ≤ n → (cs : List Clause) → held ≡ length cs → Counts sizes cs → n ≡ firstEmpty cs
   unfolding NoneBefore firstEmpty
-  all-passed l P cs e S = sym (P cs e S ∙ rw (drop-of-length-le cs {i = n} (omega arith)) (omega arith))
+  all-passed l cs e S = sym (P cs e S ∙ rw (drop-of-length-le cs {i = n} (omega arith)) (omega arith))
 
 -- The answer, from what the state that the code holds says.
 module _ {text : List ℕ} {held : code.State} {st : State} (R : Represents text held st) where

@@ -5,4 +5,5 @@ pub mod Accepts
 pub mod Guaranteed
 pub mod Worked
 pub mod Ends
+pub mod Judging
 pub mod Running

@@ -31,10 +31,9 @@ use Rattle.reader.proofs.Held.{fresh-represents, line-seen, line-state}
 use Rattle.verdict.specs.declared.Verdict.{Verdict}
 use Rattle.verdict.specs.declared.Verdict.the-variants.{Refused}
 use Rattle.verdict.specs.declared.Checked.{Checked}
-use Rattle.rules.specs.Judging.{JudgesRead}
 use Rattle.verdict.specs.Checks.{readings}
 use Rattle.verdict.specs.Answer.{stepFailure, failure, readOn}
-use Rattle.verdict.specs.Running.{Tells, Room, Ended, Next, Finishes}
+use Rattle.verdict.specs.Running.{Tells, Room, Ended, Next, Finishes, JudgesRead}
 use Rattle.verdict.proofs.Ends.{symbols-within}
 
 -- Checks 2 to 6, and then those of a step.
@@ -305,6 +304,6 @@ module _ {text : List ℕ} {at line : ℕ} {held : code.State} (P : Reached text
   held-within = (symbols-within (P .holds), omega (arith, P .room))
 
   -- All lines are read.
-  pub reached-end : length text ≤ at → (v : Verdict) → Finishes text held v → v ≡ readOn office fresh 1 (readings office text)
+  pub reached-end : length text ≤ at → (v : Verdict) → Finishes held v → v ≡ readOn office fresh 1 (readings office text)
   unfolding Finishes readings split readOn
-  reached-end h v f = f (P .st) (P .holds) ∙ sym (P .onward ∙ rw (past text at h))
+  reached-end h v f = f text (P .st) (P .holds) ∙ sym (P .onward ∙ rw (past text at h))

@@ -4,12 +4,17 @@ use mathlib.Core.List.{List, _∷_, _++_}
 use mathlib.Core.Path.{_≡_}
 use lib.ListN.{length, drop}
 use Rattle.reader.specs.declared.states.State as code
-use Rattle.text.specs.Read.{Reading, readLine}
+use Rattle.logic.specs.declared.Judged.{Judged}
+use Rattle.logic.specs.Syntax.{Step, by}
+use Rattle.logic.specs.Judge.{judge}
+use Rattle.lines.specs.declared.forms.LineAt.{LineAt}
+use Rattle.lines.specs.LineAt.{lineOf}
+use Rattle.text.specs.Read.{Reading, form, readLine}
 use Rattle.text.specs.Split.{Raw, split, readRaw}
 use Rattle.text.specs.Figures.{office}
 use Rattle.reader.specs.State.{State, clauses, after}
 use Rattle.reader.specs.ReadLine.{withAdded}
-use Rattle.reader.specs.Represents.{Represents}
+use Rattle.reader.specs.Represents.{Represents, readFailure}
 use Rattle.verdict.specs.declared.Verdict.{Verdict}
 use Rattle.verdict.specs.declared.Checked.{Checked}
 use Rattle.verdict.specs.Answer.{failure, firstEmpty, finish}
@@ -27,6 +32,12 @@ Tells text held st r c = (c .failure ≡ failure office st r) × (c .failure ≡
 unfoldable pub Room : List ℕ → code.State → Type 0
 Room text held = (held .clauses < 1_024) × (length text ≤ 65_535)
 
+-- Of a step, read by whichever table: the answer is that of the definitions.
+unfoldable pub JudgesRead : List ℕ → List ℕ → List ℕ → List ℕ → ℕ → List ℕ → LineAt → Judged → Type 0
+JudgesRead text starts literals widths own line l r =
+    (held : code.State) (st : State) (s : Step) (table : List ℕ) → starts ≡ held .starts → literals ≡ held .literals → widths ≡ held .widths → own ≡ held .clauses →
+    l ≡ lineOf table line (form (by s)) → Represents text held st → readLine 16 line ≡ form (by s) → readFailure st (form (by s)) ≡ 0 → r ≡ judge (clauses st) s
+
 -- Of an ended line, whose bytes stand at a place of the text.
 unfoldable pub Ended : List ℕ → ℕ → List ℕ → code.State → Checked → Type 0
 Ended text at line held c =
@@ -38,8 +49,8 @@ Next text at held c =
     (st : State) (raw : Raw) (raws : List Raw) → Represents text held st → Room text held → split (drop at text) ≡ raw ∷ raws → Tells text held st (readRaw 16 raw) c
 
 -- Of the clauses, and of the end of the text.
-unfoldable pub FindsEmpty : List ℕ → code.State → ℕ → Type 0
-FindsEmpty text held n = (st : State) → Represents text held st → n ≡ firstEmpty (clauses st)
+unfoldable pub FindsEmpty : code.State → ℕ → Type 0
+FindsEmpty held n = (text : List ℕ) (st : State) → Represents text held st → n ≡ firstEmpty (clauses st)
 
-unfoldable pub Finishes : List ℕ → code.State → Verdict → Type 0
-Finishes text held v = (st : State) → Represents text held st → v ≡ finish st
+unfoldable pub Finishes : code.State → Verdict → Type 0
+Finishes held v = (text : List ℕ) (st : State) → Represents text held st → v ≡ finish st

@@ -1,8 +1,11 @@
 // The verdict of a text: its lines are read and judged one after the other, and where none fails the clauses are counted.
 
+use lines::forms::LineAt;
 use lines::forms::STEP;
 use lines::forms::form_number;
 use logic::Judged;
+use reader::clauses::clause;
+use reader::clauses::size;
 use reader::states::Added;
 use reader::states::State;
 use reader::states::adds;
@@ -10,10 +13,10 @@ use reader::states::after;
 use reader::states::fresh;
 use reader::states::has_constant;
 use reader::states::see;
-use rules::steps::judge_read;
+use rules::steps::Size;
+use rules::steps::judge;
 use scan::texts::line_end;
 use scan::texts::too_large;
-use scan::words::word;
 ghost use Prim.Native.Nat.{_≤_, _<_};
 ghost use mathlib.Core.Path.{_≡_};
 ghost use mathlib.Core.Bool.{false};
@@ -27,7 +30,7 @@ ghost use Rattle.reader.specs.State.{fresh as freshly};
 ghost use Rattle.verdict.specs.Checks.{readings, tooLarge};
 ghost use Rattle.verdict.specs.Answer.{readOn, verdict};
 ghost use Rattle.verdict.specs.Guarantee.{Guarantee};
-ghost use Rattle.verdict.specs.Running.{heldAs, Ended, Next, FindsEmpty, Finishes};
+ghost use Rattle.verdict.specs.Running.{heldAs, JudgesRead, Ended, Next, FindsEmpty, Finishes};
 
 // The answer to a text.
 pub enum Verdict {
@@ -59,6 +62,31 @@ fn number(j: Judged) -> usize
     }
 }
 
+// Checks 7 to 11 of the step on a line, by what the reading holds of each clause.
+fn judged(
+    text: &[u8],
+    starts: &[u16],
+    literals: &[u8],
+    widths: &[u8],
+    clauses: usize,
+    line: &[u8],
+    l: LineAt,
+) -> Judged
+    ensures { λ r. ⌜ JudgesRead (now (text .entry)) (now (starts .entry)) (now (literals .entry)) (now (widths .entry)) clauses (now (line .entry)) l r ⌝ }
+{
+    let a = clause(text, starts, l.a);
+    let b = clause(text, starts, l.b);
+    let of_a = Size {
+        literals: size(literals, l.a),
+        width: size(widths, l.a),
+    };
+    let of_b = Size {
+        literals: size(literals, l.b),
+        width: size(widths, l.b),
+    };
+    judge(clauses, a, of_a, b, of_b, line, l)
+}
+
 // An ended line, without its line end, which begins at the place `at` of the text: a step is judged by the clauses before it.
 fn ended(
     text: &[u8],
@@ -87,8 +115,8 @@ fn ended(
     if n != STEP {
         return Checked { failure, adds: a };
     }
-    let judged = judge_read(text, starts, literals, widths, clauses, line, l);
-    let failure = number(judged);
+    let answer = judged(text, starts, literals, widths, clauses, line, l);
+    let failure = number(answer);
     Checked { failure, adds: a }
 }
 
@@ -137,16 +165,15 @@ fn next(
 }
 
 // The number of the first empty clause, or of all clauses where none is empty.
-fn first_empty(text: &[u8], state: State) -> usize
+fn first_empty(state: State) -> usize
     requires { ⌜ state .clauses ≤ 1024 ⌝ }
-    ensures { λ r. ⌜ FindsEmpty (now (text .entry)) state r ⌝ }
+    ensures { λ r. ⌜ FindsEmpty state r ⌝ }
 {
-    let starts = state.starts;
+    let literals = state.literals;
     let clauses = state.clauses;
     let mut n = 0;
     while n < clauses {
-        let at = starts[n] as usize;
-        if word(text, at, b"(or)") <= text.len() {
+        if literals[n] == 0 {
             return n;
         }
         n += 1;
@@ -155,9 +182,9 @@ fn first_empty(text: &[u8], state: State) -> usize
 }
 
 // All lines have passed.
-fn finish(text: &[u8], state: State) -> Verdict
+fn finish(state: State) -> Verdict
     requires { ⌜ (state .symbols ≤ length (state .counts)) × (state .clauses ≤ 1024) ⌝ }
-    ensures { λ r. ⌜ Finishes (now (text .entry)) state r ⌝ }
+    ensures { λ r. ⌜ Finishes state r ⌝ }
 {
     let counts = state.counts;
     let symbols = state.symbols;
@@ -165,7 +192,7 @@ fn finish(text: &[u8], state: State) -> Verdict
         return Verdict::Refused { number: 4, line: 0 };
     }
     let count = state.clauses;
-    let first = first_empty(text, state);
+    let first = first_empty(state);
     if first < count {
         return Verdict::Refuted { count, first };
     }
@@ -209,7 +236,7 @@ fn read_on(text: &[u8]) -> Verdict
         at = end + 1;
         line += 1;
     }
-    finish(text, state)
+    finish(state)
 }
 
 // The verdict of a text, and what it means.

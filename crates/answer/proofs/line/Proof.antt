@@ -1,42 +1,15 @@
 -- `answer::line` meets its contract: each variant's line, which fits 64 bytes.
 -- Assumes nothing.
-use Prim.Native.Nat.{ℕ, _+_, _≤_}
-use mathlib.Core.Path.{_≡_, refl, sym, ap, _∙_}
+use Prim.Native.Nat.{_≤_}
+use mathlib.Core.Path.{sym, ap, _∙_}
 use native.Mathlib.Omega.{arith}
-use lib.ListN.{length, take}
+use lib.ListN.{length}
 use lib.Seq.{length-take-le}
 use borrow.Author.Needs.{needs}
 use Rattle.verdict.specs.Answer.{word, numbers}
 use Rattle.answer.specs.Line.{written}
 use Rattle.answer.proofs.line.Statement.{statement}
 use Rattle.answer.proofs.line.Tie as tie
-
-enum-known-v : tie.Need-enum-known-v
-enum-known-v c = search needs
-
-slice-aggregate-put-two : tie.Need-slice-aggregate-put-two
-slice-aggregate-put-two c = search needs
-
-put-two-requires : tie.Need-put-two-requires
-put-two-requires c κs = search needs
-
-enum-known-v-2 : tie.Need-enum-known-v-2
-enum-known-v-2 c = search needs
-
-slice-aggregate-put-one : tie.Need-slice-aggregate-put-one
-slice-aggregate-put-one c = search needs
-
-put-one-requires : tie.Need-put-one-requires
-put-one-requires c κs = search needs
-
-enum-known-v-3 : tie.Need-enum-known-v-3
-enum-known-v-3 c = search needs
-
-slice-aggregate-put-two-2 : tie.Need-slice-aggregate-put-two-2
-slice-aggregate-put-two-2 c = search needs
-
-put-two-requires-2 : tie.Need-put-two-requires-2
-put-two-requires-2 c κs = search needs
 
 returns : tie.Need-returns
 unfolding written word numbers
@@ -58,17 +31,6 @@ returns-3 c =
 
 pub line-spec : {M : Type 1} → statement M
 line-spec =
-    tie.close
-    (tie.spec
-    enum-known-v
-    slice-aggregate-put-two
-    put-two-requires
-    enum-known-v-2
-    slice-aggregate-put-one
-    put-one-requires
-    enum-known-v-3
-    slice-aggregate-put-two-2
-    put-two-requires-2
-    returns
-    returns-2
-    returns-3)
+    tie.close (tie.spec
+    (λ c. search needs) (λ c. search needs) (λ c κs. search needs) (λ c. search needs) (λ c. search needs)
+    (λ c κs. search needs) (λ c. search needs) (λ c. search needs) (λ c κs. search needs) returns returns-2 returns-3)

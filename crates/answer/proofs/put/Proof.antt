@@ -1,8 +1,8 @@
 -- `answer::put` meets its contract. The invariant of its loop: the first at + i bytes of `out` are those before at and then the first i of `part`. The measure is what is left of `part`.
 -- Assumes nothing.
-use Prim.Native.Nat.{ℕ, suc, _+_, _-_, _≤_, _<_}
-use mathlib.Core.Path.{_≡_, refl, sym, ap, _∙_, subst}
-use mathlib.Core.List.{List, [], _∷_, _++_, append-assoc, append-nil}
+use Prim.Native.Nat.{ℕ, _+_, _-_, _≤_, _<_}
+use mathlib.Core.Path.{_≡_, refl, ap, _∙_}
+use mathlib.Core.List.{List, _++_, append-assoc, append-nil}
 use native.Mathlib.Nat.{add-zero, add-suc, le-antisymm}
 use native.Mathlib.Numerals.{add-one}
 use native.Mathlib.Omega.{arith}
@@ -26,21 +26,6 @@ more part out out₀ at i h room e =
 loop-holds : tie.Need-loop-holds Inv-loop μ-loop
 loop-holds c = (omega arith, refl, rw (add-zero, append-nil))
 
-shared-slice-read-out : tie.Need-shared-slice-read-out Inv-loop μ-loop
-shared-slice-read-out c = omega arith
-
-add-out : tie.Need-add-out Inv-loop μ-loop
-add-out c = omega arith
-
-slice-write-out : tie.Need-slice-write-out Inv-loop μ-loop
-slice-write-out c = omega arith
-
-add-i : tie.Need-add-i Inv-loop μ-loop
-add-i c = omega arith
-
-loop-less : tie.Need-loop-less Inv-loop μ-loop
-loop-less c = omega arith
-
 loop-again : tie.Need-loop-again Inv-loop μ-loop
 loop-again c =
     let at = c .before .before .before .args .at in
@@ -50,9 +35,6 @@ loop-again c =
       length-set (c .before .before .loop .out) (at + i) _ ∙ c .before .before .loop .inv .1,
       more _ _ _ at i (c .before .loop-test .taken) room (c .before .before .loop .inv .2),
     )
-
-add-result : tie.Need-add-result Inv-loop μ-loop
-add-result c = omega arith
 
 same-length : tie.Need-same-length Inv-loop μ-loop
 same-length c = c .before .loop .inv .1
@@ -66,17 +48,6 @@ returns c =
 
 pub put-spec : {M : Type 1} → statement M
 put-spec =
-    tie.close
-    (tie.spec
-    Inv-loop
-    μ-loop
-    loop-holds
-    shared-slice-read-out
-    add-out
-    slice-write-out
-    add-i
-    loop-less
-    loop-again
-    add-result
-    same-length
-    returns)
+    tie.close (tie.spec
+    Inv-loop μ-loop loop-holds (λ c. omega arith) (λ c. omega arith) (λ c. omega arith) (λ c. omega arith)
+    (λ c. omega arith) loop-again (λ c. omega arith) same-length returns)

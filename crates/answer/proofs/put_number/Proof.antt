@@ -1,10 +1,10 @@
 -- `answer::put_number` meets its contract: a space, and then the digits, which are the numeral.
 -- Assumes nothing.
 use Prim.Native.Nat.{ℕ}
-use mathlib.Core.Path.{_≡_, refl, sym, ap, _∙_, subst}
-use mathlib.Core.List.{List, [], _∷_, _++_, append-assoc}
+use mathlib.Core.Path.{ap, _∙_}
+use mathlib.Core.List.{List, [], _∷_, _++_}
 use native.Mathlib.Omega.{arith}
-use lib.ListN.{length, take}
+use lib.ListN.{take}
 use denote.Ref.{now}
 use borrow.Author.Needs.{needs}
 use Rattle.answer.proofs.Join.{after-two}
@@ -13,29 +13,11 @@ use Rattle.answer.proofs.Digits.{few, decimal-numeral}
 use Rattle.answer.proofs.put_number.Statement.{statement}
 use Rattle.answer.proofs.put_number.Tie as tie
 
-decimal-requires : tie.Need-decimal-requires
-decimal-requires c κs = search needs
-
-slice-aggregate-put : tie.Need-slice-aggregate-put
-slice-aggregate-put c = search needs
-
-put-requires : tie.Need-put-requires
-put-requires c κs = search needs
-
-array-share-prefix-digits : tie.Need-array-share-prefix-digits
-array-share-prefix-digits c = search needs
-
-slice-aggregate-put-2 : tie.Need-slice-aggregate-put-2
-slice-aggregate-put-2 c = search needs
-
 put-requires-2 : tie.Need-put-requires-2
 put-requires-2 c κs =
     let d = c .before .before .before .before .before .before .before .decimal in
     let n = c .before .before .before .before .before .before .before .before .before .before .args .n in
     omega (arith, few n (d .result) (c .before .before .before .before .before .before .before .before .before .before .fits .n .fits) (d .ensures .1 .0), d .ensures .0 .1)
-
-same-length : tie.Need-same-length
-same-length c = search needs
 
 returns : tie.Need-returns
 returns c =
@@ -49,13 +31,6 @@ returns c =
 
 pub put-number-spec : {M : Type 1} → statement M
 put-number-spec =
-    tie.close
-    (tie.spec
-    decimal-requires
-    slice-aggregate-put
-    put-requires
-    array-share-prefix-digits
-    slice-aggregate-put-2
-    put-requires-2
-    same-length
-    returns)
+    tie.close (tie.spec
+    (λ c κs. search needs) (λ c. search needs) (λ c κs. search needs) (λ c. search needs) (λ c. search needs)
+    put-requires-2 (λ c. search needs) returns)

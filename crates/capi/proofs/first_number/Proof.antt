@@ -7,15 +7,6 @@ use Rattle.capi.specs.Numbered.{firstNumber}
 use Rattle.capi.proofs.first_number.Statement.{statement}
 use Rattle.capi.proofs.first_number.Tie as tie
 
-enum-known-v : tie.Need-enum-known-v
-enum-known-v c = search needs
-
-enum-known-v-2 : tie.Need-enum-known-v-2
-enum-known-v-2 c = search needs
-
-enum-known-v-3 : tie.Need-enum-known-v-3
-enum-known-v-3 c = search needs
-
 returns : tie.Need-returns
 unfolding firstNumber numbers
 returns c = ap firstNumber (sym (c .before .v .given .1))
@@ -29,4 +20,6 @@ unfolding firstNumber numbers
 returns-3 c = ap firstNumber (sym (c .before .v3 .given .1))
 
 pub first-number-spec : {M : Type 1} → statement M
-first-number-spec = tie.close (tie.spec enum-known-v enum-known-v-2 enum-known-v-3 returns returns-2 returns-3)
+first-number-spec =
+    tie.close (tie.spec
+    (λ c. search needs) (λ c. search needs) (λ c. search needs) returns returns-2 returns-3)

@@ -6,15 +6,6 @@ use Rattle.capi.specs.Numbered.{wordNumber}
 use Rattle.capi.proofs.word.Statement.{statement}
 use Rattle.capi.proofs.word.Tie as tie
 
-enum-told : tie.Need-enum-told
-enum-told c = search needs
-
-enum-told-2 : tie.Need-enum-told-2
-enum-told-2 c = search needs
-
-enum-told-3 : tie.Need-enum-told-3
-enum-told-3 c = search needs
-
 returns : tie.Need-returns
 unfolding wordNumber
 returns c = ap wordNumber (sym (c .enum-told .given .1))
@@ -28,4 +19,6 @@ unfolding wordNumber
 returns-3 c = ap wordNumber (sym (c .enum-told3 .given .1))
 
 pub word-spec : {M : Type 1} → statement M
-word-spec = tie.close (tie.spec enum-told enum-told-2 enum-told-3 returns returns-2 returns-3)
+word-spec =
+    tie.close (tie.spec
+    (λ c. search needs) (λ c. search needs) (λ c. search needs) returns returns-2 returns-3)

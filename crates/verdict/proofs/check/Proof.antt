@@ -7,9 +7,6 @@ use borrow.Author.Needs.{needs}
 use Rattle.verdict.proofs.check.Statement.{statement}
 use Rattle.verdict.proofs.check.Tie as tie
 
-too-large-requires : tie.Need-too-large-requires
-too-large-requires c κs = search needs
-
 returns : tie.Need-returns
 unfolding verdict
 returns c =
@@ -26,4 +23,6 @@ returns-2 c =
     answered _ _ _ (rw (← c .before .before .too-large .ensures, e) (c .read-on .ensures))
 
 pub check-spec : {M : Type 1} → statement M
-check-spec = tie.close (tie.spec too-large-requires returns read-on-requires returns-2)
+check-spec =
+    tie.close (tie.spec
+    (λ c κs. search needs) returns read-on-requires returns-2)

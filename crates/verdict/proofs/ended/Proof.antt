@@ -11,46 +11,22 @@ use Rattle.verdict.proofs.ended.Tie as tie
 slice-aggregate-see : tie.Need-slice-aggregate-see
 slice-aggregate-see c = sym (length-take-le _ _ (c .before .before .before .before .before .before .before .pre))
 
-see-requires : tie.Need-see-requires
-see-requires c κs = tt
-
-adds-requires : tie.Need-adds-requires
-adds-requires c κs = tt
-
 returns : tie.Need-returns
 unfolding Ended heldTable
 returns c = λ st rest R room l d. tells-failed R room _ rest _ l d (c .before .before .before .see .ensures) (c .before .adds .ensures) (c .if1 .taken)
-
-form-number-requires : tie.Need-form-number-requires
-form-number-requires c κs = tt
 
 returns-2 : tie.Need-returns-2
 unfolding Ended heldTable
 returns-2 c =
     λ st rest R room l d. tells-passed R room _ rest _ l d (c .before .before .before .before .before .see .ensures) (c .before .before .before .adds .ensures) (omega (arith, c .before .before .if1 .left)) (λ q. c .if2 .taken (c .before .form-number .ensures ∙ q))
 
-judge-read-requires : tie.Need-judge-read-requires
-judge-read-requires c κs = tt
-
-number-requires : tie.Need-number-requires
-number-requires c κs = tt
-
 returns-3 : tie.Need-returns-3
 unfolding Ended heldTable
 returns-3 c =
     let b : c .before .before .before .form-number .result ≡ 3 = omega (arith, c .before .before .if2 .left) in
-    λ st rest R room l d. tells-step R room _ rest _ l d (c .before .before .before .before .before .before .before .see .ensures) (c .before .before .before .before .before .adds .ensures) (omega (arith, c .before .before .before .before .if1 .left)) (sym (c .before .before .before .form-number .ensures) ∙ b) _ (c .before .judge-read .ensures .1) (c .number .ensures)
+    λ st rest R room l d. tells-step R room _ rest _ l d (c .before .before .before .before .before .before .before .see .ensures) (c .before .before .before .before .before .adds .ensures) (omega (arith, c .before .before .before .before .if1 .left)) (sym (c .before .before .before .form-number .ensures) ∙ b) _ (c .before .judged .ensures) (c .number .ensures)
 
 pub ended-spec : {M : Type 1} → statement M
 ended-spec =
-    tie.close
-    (tie.spec
-    slice-aggregate-see
-    see-requires
-    adds-requires
-    returns
-    form-number-requires
-    returns-2
-    judge-read-requires
-    number-requires
-    returns-3)
+    tie.close (tie.spec
+    slice-aggregate-see (λ c κs. tt) (λ c κs. tt) returns (λ c κs. tt) returns-2 (λ c κs. tt) (λ c κs. tt) returns-3)

@@ -36,5 +36,5 @@ returns-2 c =
 
 pub next-spec : {M : Type 1} → statement M
 next-spec =
-    tie.close
-    (tie.spec returns sub-ended part-ended-start part-ended-end ended-requires returns-2)
+    tie.close (tie.spec
+    returns sub-ended part-ended-start part-ended-end ended-requires returns-2)

@@ -13,26 +13,8 @@ Inv-loop text state₀ at₀ line₀ state at line = (at ≤ length text) × (li
 abbrev μ-loop : tie.MeasureT-loop
 μ-loop text state₀ at₀ line₀ state at line = length text - at
 
-fresh-requires : tie.Need-fresh-requires Inv-loop μ-loop
-fresh-requires c κs = tt
-
 loop-holds : tie.Need-loop-holds Inv-loop μ-loop
 loop-holds c = (omega arith, omega arith, rw (c .fresh .ensures) (reached-first _ (c .before .before .pre)))
-
-line-end-requires : tie.Need-line-end-requires Inv-loop μ-loop
-line-end-requires c κs = tt
-
-slice-aggregate-next : tie.Need-slice-aggregate-next Inv-loop μ-loop
-slice-aggregate-next c = search needs
-
-slice-aggregate-next-2 : tie.Need-slice-aggregate-next-2 Inv-loop μ-loop
-slice-aggregate-next-2 c = search needs
-
-slice-aggregate-next-3 : tie.Need-slice-aggregate-next-3 Inv-loop μ-loop
-slice-aggregate-next-3 c = search needs
-
-slice-aggregate-next-4 : tie.Need-slice-aggregate-next-4 Inv-loop μ-loop
-slice-aggregate-next-4 c = search needs
 
 next-requires : tie.Need-next-requires Inv-loop μ-loop
 next-requires c κs = (omega arith, c .before .before .before .before .before .before .before .before .line-end .ensures, held-within (c .before .before .before .before .before .before .before .before .before .before .loop .inv .2) .0)
@@ -41,9 +23,6 @@ returns : tie.Need-returns Inv-loop μ-loop
 returns c =
     let l = c .before .before .before .before .before .before .before .before .before .before .before .before .loop in
     line-refused (l .inv .2) (omega arith) (text-small _ (c .before .before .before .before .before .before .before .before .before .before .before .before .before .before .before .pre)) (c .before .next .result) (c .before .next .ensures) (c .if1 .taken)
-
-after-requires : tie.Need-after-requires Inv-loop μ-loop
-after-requires c κs = tt
 
 add-at : tie.Need-add-at Inv-loop μ-loop
 add-at c =
@@ -84,23 +63,7 @@ returns-2 c = reached-end (c .before .before .loop .inv .2) (omega arith) _ (c .
 
 pub read-on-spec : {M : Type 1} → statement M
 read-on-spec =
-    tie.close
-    (tie.spec
-    Inv-loop
-    μ-loop
-    fresh-requires
-    loop-holds
-    line-end-requires
-    slice-aggregate-next
-    slice-aggregate-next-2
-    slice-aggregate-next-3
-    slice-aggregate-next-4
-    next-requires
-    returns
-    after-requires
-    add-at
-    add-line
-    loop-less
-    loop-again
-    finish-requires
+    tie.close (tie.spec
+    Inv-loop μ-loop (λ c κs. tt) loop-holds (λ c κs. tt) (λ c. search needs) (λ c. search needs) (λ c. search needs)
+    (λ c. search needs) next-requires returns (λ c κs. tt) add-at add-line loop-less loop-again finish-requires
     returns-2)

@@ -1,0 +1,61 @@
+-- The answers of the comparing functions, from the places that they found.
+use Prim.Native.Nat.{ℕ, _+_, _-_, _≤_, _<_}
+use mathlib.Core.Path.{_≡_, refl, sym, _∙_, ap}
+use mathlib.Core.List.{List, [], _∷_}
+use native.Mathlib.Omega.{arith}
+use lib.ListN.{length, drop, length-drop, drop-of-length-le}
+use Rattle.scan.specs.declared.numbers.NumberAt.{NumberAt}
+use Rattle.text.specs.Read.{Parsed, bad, got, Reader, after, strip, readNumber}
+use Rattle.text.specs.Places.{endOf, readOr}
+use Rattle.scan.specs.Numbers.{numberAt}
+use Rattle.text.proofs.Gives.{Gives, nothing, gives}
+use Rattle.text.proofs.Number.{number-sound}
+use Rattle.text.proofs.Plain.{number-plain}
+use Rattle.text.proofs.Positions.{End, Tail, missing, there, end-trans, end-drop, strip-tail, sound-tail}
+use Rattle.filling.specs.declared.compare.Ends.{Ends}
+use Rattle.filling.specs.Filled.{readIndex, indexed, matches, endsOf}
+
+pub ends-at : (p t : List ℕ) (i j : ℕ) {whole : Parsed (List ℕ)} → i ≤ length p → j ≤ length t → whole ≡ got (drop j t) (drop i p) → record { at = i; pos = j } ≡ endsOf p t whole
+unfolding endsOf
+ends-at p t i j h k e =
+    let a : i ≡ length p - length (drop i p) = omega (arith, length-drop i p) in
+    let b : j ≡ length t - length (drop j t) = omega (arith, length-drop j t) in
+    rw e (λ x. record { at = a x; pos = b x })
+
+pub ends-bad : (p t : List ℕ) {e : Ends} {whole : Parsed (List ℕ)} → e ≡ endsOf p t bad → whole ≡ bad → e ≡ endsOf p t whole
+ends-bad p t e w = rw w e
+
+-- A variable's number and the bracket behind it.
+pub data Indexed (entry : ℕ → List ℕ) (p : List ℕ) (at v end : ℕ) : Type 0 where
+  without : indexed entry (drop at p) ≡ bad → length p < end → Indexed entry p at v end
+  index : indexed entry (drop at p) ≡ got (entry v) (drop end p) → end ≤ length p → Indexed entry p at v end
+
+module _ (entry : ℕ → List ℕ) (p : List ℕ) (at : ℕ) where
+  closed : (n : ℕ) (rest : List ℕ) → End (drop at p) rest → readNumber (drop at p) ≡ got n rest → {y : Parsed (Unit {0})} → strip (41 ∷ []) rest ≡ y → Gives (λ _ left. End rest left) y → Indexed entry p at n (endOf p y)
+  unfolding indexed readIndex endOf
+  closed n rest e r c nothing = without (rw (r, c)) (omega arith)
+  closed n rest e r c (gives {rest = left} k) = index (rw (r, c) (ap (got (entry n)) (sym (end-drop p at left (end-trans e k))))) (omega arith)
+
+  numbered : {x : Parsed ℕ} → readNumber (drop at p) ≡ x → Gives (λ _ rest. End (drop at p) rest) x → Indexed entry p at (readOr 0 (λ n. n) x) (endOf p (strip (41 ∷ []) (drop (endOf p x) p)))
+  unfolding indexed readIndex endOf strip
+  numbered r nothing = rw (drop-of-length-le p {i = length p + 1} (omega arith)) (without (rw r) (omega arith))
+  numbered r (gives {a = n} {rest} e) = rw (end-drop p at rest e) (closed n rest e r refl (strip-tail (41 ∷ []) .tail rest))
+
+  pub find-index : {n : NumberAt} {end : ℕ} → n ≡ numberAt p (readNumber (drop at p)) → end ≡ endOf p (strip (41 ∷ []) (drop (n .end) p)) → Indexed entry p at (n .value) end
+  find-index e f = rw (f, e) (numbered refl (sound-tail number-sound number-plain .tail (drop at p)))
+
+module _ {entry : ℕ → List ℕ} {p : List ℕ} {at v end : ℕ} (t : List ℕ) (pos : ℕ) where
+  pub entry-lost : Indexed entry p at v end → length p < end → matches (indexed entry (drop at p)) (drop pos t) ≡ bad
+  unfolding matches
+  entry-lost (without e l) h = rw e
+  entry-lost (index e l) h = absurd (omega arith)
+
+  pub entry-other : Indexed entry p at v end → end ≤ length p → length t < endOf t (strip (entry v) (drop pos t)) → matches (indexed entry (drop at p)) (drop pos t) ≡ bad
+  unfolding matches
+  entry-other (without e l) h n = absurd (omega arith)
+  entry-other (index e l) h n = rw (e, missing t pos (strip-tail (entry v)) n)
+
+  pub entry-same : Indexed entry p at v end → end ≤ length p → endOf t (strip (entry v) (drop pos t)) ≤ length t → matches (indexed entry (drop at p)) (drop pos t) ≡ got (drop (endOf t (strip (entry v) (drop pos t))) t) (drop end p)
+  unfolding matches
+  entry-same (without e l) h n = absurd (omega arith)
+  entry-same (index e l) h n = rw e (ap (λ y. after y (λ _ left. got left (drop end p))) (there t pos (strip-tail (entry v)) n .1))

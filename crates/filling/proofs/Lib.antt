@@ -1,0 +1,16 @@
+pub mod Filling
+pub mod Walk
+pub mod Answers
+pub mod Expected
+pub mod Sameness
+pub mod Claiming
+pub mod Claimed
+pub mod Alike
+pub mod NumberedFill
+pub mod Agreed
+pub mod Holes
+pub mod Finding
+pub mod Occurring
+pub mod Spots
+pub mod Placed
+pub mod LineLists

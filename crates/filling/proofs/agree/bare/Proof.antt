@@ -1,0 +1,33 @@
+use mathlib.Core.Path.{_≡_, refl, sym, _∙_}
+use mathlib.Core.Bool.{true, false}
+use Rattle.filling.specs.Covers.{headAt, bareAt}
+use Rattle.parts.specs.Shapes.{stripAt, resultAt}
+use Rattle.parts.specs.Shapes.{within}
+use Rattle.text.specs.Words.{bytes}
+use denote.Ref.{now}
+use Rattle.filling.proofs.agree.bare.Statement.{statement}
+use Rattle.filling.proofs.agree.bare.Tie as tie
+
+returns : tie.Need-returns
+unfolding bareAt stripAt
+returns c =
+    let a = c .before .before .before .before .before .before .before .before .before .before .before .before .before .before .before .args in
+    let o = stripAt (now (a .a)) (headAt (now (a .a)) (a .x)) (a .x) in
+    let none : within (now (a .a)) (stripAt (now (a .a)) (bytes "none") (resultAt (now (a .a)) o)) ≡ true =
+    sym (rw (c .before .before .before .before .word3 .ensures, c .before .before .before .before .before .before .result .ensures, c .before .before .before .before .before .before .before .before .word .ensures, c .before .before .before .before .before .before .before .before .before .head .ensures) at (c .before .before .before .within .ensures)) ∙ c .before .before .if1 .taken in
+    rw none (rw (c .before .within2 .ensures, c .before .before .before .before .before .before .before .word2 .ensures, c .before .before .before .before .before .before .before .before .word .ensures, c .before .before .before .before .before .before .before .before .before .head .ensures) at (c .calls .ensures))
+
+returns-2 : tie.Need-returns-2
+unfolding bareAt stripAt
+returns-2 c =
+    let a = c .before .before .before .before .before .before .before .before .before .before .before .before .before .args in
+    let o = stripAt (now (a .a)) (headAt (now (a .a)) (a .x)) (a .x) in
+    let none : within (now (a .a)) (stripAt (now (a .a)) (bytes "none") (resultAt (now (a .a)) o)) ≡ false =
+    sym (rw (c .before .before .word3 .ensures, c .before .before .before .before .result .ensures, c .before .before .before .before .before .before .word .ensures, c .before .before .before .before .before .before .before .head .ensures) at (c .before .within .ensures)) ∙ c .if1 .left in
+    rw none
+
+pub bare-spec : {M : Type 1} → statement M
+bare-spec =
+    tie.close (tie.spec
+    (λ c κs. tt) (λ c κs. tt) (λ c κs. tt) (λ c κs. tt) (λ c. refl) (λ c κs. tt) (λ c κs. tt) (λ c κs. tt)
+    (λ c κs. tt) returns returns-2)

@@ -1,0 +1,15 @@
+use mathlib.Core.Path.{ap}
+use mathlib.Core.Path.{refl}
+use Rattle.filling.proofs.claims.ends.Statement.{statement}
+use Rattle.filling.proofs.claims.ends.Tie as tie
+use Rattle.parts.specs.Shapes.{stripAt}
+use lib.Dec.{eqb}
+
+returns : tie.Need-returns
+unfolding stripAt
+returns c = cc
+
+pub ends-spec : {M : Type 1} → statement M
+ends-spec =
+    tie.close (tie.spec
+    (λ c. refl) (λ c κs. tt) returns)

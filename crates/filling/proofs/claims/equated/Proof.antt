@@ -1,0 +1,15 @@
+use mathlib.Core.Path.{refl}
+use Rattle.filling.proofs.claims.equated.Statement.{statement}
+use Rattle.filling.proofs.claims.equated.Tie as tie
+use Rattle.filling.specs.Claims.{linkedAt, equatedAt}
+use Rattle.parts.specs.Shapes.{stripAt}
+
+returns : tie.Need-returns
+unfolding equatedAt linkedAt stripAt
+returns c = rw (c .word3 .ensures, c .before .before .filled2 .ensures, c .before .before .before .word2 .ensures, c .before .before .before .before .before .filled .ensures, c .before .before .before .before .before .before .word .ensures, c .before .before .before .before .before .before .before .before .begin .ensures)
+
+pub equated-spec : {M : Type 1} → statement M
+equated-spec =
+    tie.close (tie.spec
+    (λ c κs. tt) (λ c. refl) (λ c κs. tt) (λ c κs. tt) (λ c. refl) (λ c κs. tt) (λ c κs. tt) (λ c. refl) (λ c κs. tt)
+    returns)

@@ -1,0 +1,13 @@
+use mathlib.Core.Path.{ap}
+use Rattle.filling.specs.declared.compare.Ends.{Ends}
+use Rattle.filling.specs.Claims.{filledAt}
+use borrow.Author.Needs.{needs}
+use Rattle.filling.proofs.claims.filled.Statement.{statement}
+use Rattle.filling.proofs.claims.filled.Tie as tie
+
+returns : tie.Need-returns
+unfolding filledAt
+returns c = ap (λ (e : Ends). e .pos) (c .expect-filled .ensures)
+
+pub filled-spec : {M : Type 1} → statement M
+filled-spec = tie.close (tie.spec (λ c κs. search needs) returns)

@@ -1,0 +1,13 @@
+use mathlib.Core.Path.{refl}
+use Rattle.parts.specs.Shapes.{stripAt}
+use Rattle.filling.specs.Claims.{keptAt}
+use borrow.Author.Needs.{needs}
+use Rattle.filling.proofs.claims.kept.Statement.{statement}
+use Rattle.filling.proofs.claims.kept.Tie as tie
+
+returns : tie.Need-returns
+unfolding keptAt stripAt
+returns c = rw (c .before .word .ensures) at (c .expect-filled .ensures)
+
+pub kept-spec : {M : Type 1} → statement M
+kept-spec = tie.close (tie.spec (λ c. refl) (λ c κs. tt) (λ c κs. search needs) returns)

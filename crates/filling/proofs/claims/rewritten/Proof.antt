@@ -1,0 +1,16 @@
+use borrow.Author.Needs.{needs}
+use mathlib.Core.Path.{ap, refl}
+use Rattle.filling.proofs.claims.rewritten.Statement.{statement}
+use Rattle.filling.proofs.claims.rewritten.Tie as tie
+use Rattle.filling.specs.Claims.{rewrittenAt}
+use Rattle.parts.specs.Shapes.{stripAt}
+use Rattle.filling.specs.declared.compare.Ends.{Ends}
+
+returns : tie.Need-returns
+unfolding rewrittenAt stripAt
+returns c = ap (λ (e : Ends). e .pos) (rw (c .before .word .ensures, c .before .before .before .begin .ensures) at (c .expect .ensures))
+
+pub rewritten-spec : {M : Type 1} → statement M
+rewritten-spec =
+    tie.close (tie.spec
+    (λ c κs. tt) (λ c. refl) (λ c κs. tt) (λ c κs. search needs) returns)

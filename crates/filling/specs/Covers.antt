@@ -1,0 +1,24 @@
+-- Covering in bytes, and the atoms of literals by their signs.
+use Prim.Native.Nat.{ℕ}
+use mathlib.Core.Bool.{Bool, cond, not, _&&_, _||_}
+use mathlib.Core.List.{List}
+use lib.ListN.{take, drop}
+use Rattle.text.specs.Words.{bytes}
+use Rattle.parts.specs.Shapes.{stripAt, positiveAt, negativeAt, resultAt, orElse, firstAt}
+use Rattle.filling.specs.Agree.{agreeAt, callsAt}
+use Rattle.parts.specs.Shapes.{within}
+
+-- The head of an arrow atom: a bracket, two letters and a space.
+unfoldable pub headAt : List ℕ → ℕ → List ℕ
+headAt p x = take 4 (drop x p)
+
+-- "Y is X with none in place of a term result": the atom at x of p has none and is otherwise the one at y of q.
+unfoldable pub bareAt : List ℕ → ℕ → List ℕ → List ℕ → List ℕ → ℕ → List ℕ → Bool
+bareAt p x line starts q y others =
+    let o = stripAt p (headAt p x) x in
+    let u = stripAt q (headAt p x) y in
+    within p (stripAt p (bytes "none") (resultAt p o)) && callsAt (within q u) p o line starts q u others
+
+-- "X *covers* Y if they are equal, or Y is X with none in place of a term result": the atom at y of q covers the one at x of p.
+unfoldable pub coversAt : List ℕ → ℕ → List ℕ → List ℕ → List ℕ → ℕ → List ℕ → Bool
+coversAt p x line starts q y others = agreeAt p x line starts q y others || bareAt p x line starts q y others

@@ -1,0 +1,4 @@
+pub mod Filled
+pub mod Claims
+pub mod Agree
+pub mod Covers

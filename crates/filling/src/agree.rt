@@ -1,0 +1,103 @@
+// Whether filled items agree: the item at x of clause a, filled by the first list of the line, and the item at y of clause b, filled by the second.
+use crate::compare::ITEM_DEPTH;
+use crate::compare::same;
+use parts::shapes::next;
+use parts::shapes::result;
+use parts::shapes::within;
+use scan::texts::clause_part;
+use scan::words::word;
+ghost use mathlib.Core.Path.{_≡_};
+ghost use Rattle.filling.specs.Agree.{agreeAt, callsAt};
+ghost use Rattle.filling.specs.Covers.{headAt, bareAt, coversAt};
+
+// The two items are the same.
+pub fn agree(
+    a: &[u8],
+    x: usize,
+    line: &[u8],
+    first: &[usize],
+    b: &[u8],
+    y: usize,
+    second: &[usize],
+) -> bool
+    ensures { λ r. ⌜ r ≡ agreeAt (now (a .entry)) x (now (line .entry)) (now (first .entry)) (now (b .entry)) y (now (second .entry)) ⌝ }
+{
+    let ends = same(a, x, line, first, b, y, second, ITEM_DEPTH);
+    within(a, ends.at)
+}
+
+// Arrow atoms whose objects are at x and y are alike but for their results.
+pub fn calls(
+    arrows: bool,
+    a: &[u8],
+    x: usize,
+    line: &[u8],
+    first: &[usize],
+    b: &[u8],
+    y: usize,
+    second: &[usize],
+) -> bool
+    ensures { λ r. ⌜ r ≡ callsAt arrows (now (a .entry)) x (now (line .entry)) (now (first .entry)) (now (b .entry)) y (now (second .entry)) ⌝ }
+{
+    if arrows {
+        if agree(a, x, line, first, b, y, second) {
+            let u = next(a, x);
+            let v = next(b, y);
+            if agree(a, u, line, first, b, v, second) {
+                return agree(a, next(a, u), line, first, b, next(b, v), second);
+            }
+        }
+    }
+    false
+}
+
+// The head of an arrow atom: a bracket, two letters and a space.
+fn head(clause: &[u8], at: usize) -> &[u8]
+    ensures { λ r. ⌜ now r ≡ headAt (now (clause .entry)) at ⌝ }
+{
+    let rest = clause_part(clause, at);
+    if rest.len() < 4 {
+        return rest;
+    }
+    &rest[0..4]
+}
+
+// The atom at x of a has none and is otherwise the one at y of b.
+fn bare(
+    a: &[u8],
+    x: usize,
+    line: &[u8],
+    first: &[usize],
+    b: &[u8],
+    y: usize,
+    second: &[usize],
+) -> bool
+    ensures { λ r. ⌜ r ≡ bareAt (now (a .entry)) x (now (line .entry)) (now (first .entry)) (now (b .entry)) y (now (second .entry)) ⌝ }
+{
+    let h = head(a, x);
+    let o = word(a, x, h);
+    let u = word(b, y, h);
+    let none = within(a, word(a, result(a, o), b"none"));
+    if none {
+        return calls(within(b, u), a, o, line, first, b, u, second);
+    }
+    false
+}
+
+// The atom at y of b covers the one at x of a.
+pub fn covers(
+    a: &[u8],
+    x: usize,
+    line: &[u8],
+    first: &[usize],
+    b: &[u8],
+    y: usize,
+    second: &[usize],
+) -> bool
+    ensures { λ r. ⌜ r ≡ coversAt (now (a .entry)) x (now (line .entry)) (now (first .entry)) (now (b .entry)) y (now (second .entry)) ⌝ }
+{
+    if agree(a, x, line, first, b, y, second) {
+        return true;
+    }
+    bare(a, x, line, first, b, y, second)
+}

@@ -1,0 +1,12 @@
+use Rattle.parts.proofs.shapes.argument.Statement.{statement}
+use Rattle.parts.proofs.shapes.argument.Tie as tie
+use Rattle.parts.specs.Shapes.{argumentAt}
+
+returns : tie.Need-returns
+unfolding argumentAt
+returns c = cc
+
+pub argument-spec : {M : Type 1} → statement M
+argument-spec =
+    tie.close (tie.spec
+    (λ c κs. tt) (λ c κs. tt) (λ c κs. tt) returns)

@@ -1,0 +1,12 @@
+use Rattle.parts.proofs.shapes.atom.Statement.{statement}
+use Rattle.parts.proofs.shapes.atom.Tie as tie
+use Rattle.parts.specs.Shapes.{atomAt}
+
+returns : tie.Need-returns
+unfolding atomAt
+returns c = cc
+
+pub atom-spec : {M : Type 1} → statement M
+atom-spec =
+    tie.close (tie.spec
+    (λ c κs. tt) (λ c κs. tt) (λ c κs. tt) returns)

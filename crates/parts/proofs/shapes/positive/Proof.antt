@@ -1,0 +1,13 @@
+use mathlib.Core.Path.{refl}
+use Rattle.parts.specs.Shapes.{positiveAt, stripAt}
+use Rattle.parts.proofs.shapes.positive.Statement.{statement}
+use Rattle.parts.proofs.shapes.positive.Tie as tie
+
+returns : tie.Need-returns
+unfolding positiveAt stripAt
+returns c = cc
+
+pub positive-spec : {M : Type 1} → statement M
+positive-spec =
+    tie.close (tie.spec
+    (λ c. refl) (λ c κs. tt) returns)

@@ -1,0 +1,12 @@
+use Rattle.parts.specs.Shapes.{resultAt}
+use Rattle.parts.proofs.shapes.result.Statement.{statement}
+use Rattle.parts.proofs.shapes.result.Tie as tie
+
+returns : tie.Need-returns
+unfolding resultAt
+returns c = cc
+
+pub result-spec : {M : Type 1} → statement M
+result-spec =
+    tie.close (tie.spec
+    (λ c κs. tt) (λ c κs. tt) (λ c κs. tt) returns)

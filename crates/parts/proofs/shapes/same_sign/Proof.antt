@@ -1,0 +1,13 @@
+use Rattle.parts.proofs.shapes.same_sign.Statement.{statement}
+use Rattle.parts.proofs.shapes.same_sign.Tie as tie
+use Rattle.parts.specs.Shapes.{sameSignAt}
+
+returns : tie.Need-returns
+unfolding sameSignAt
+returns c = cc
+
+pub same-sign-spec : {M : Type 1} → statement M
+same-sign-spec =
+    tie.close (tie.spec
+    (λ c κs. tt) (λ c κs. tt) (λ c κs. tt) (λ c κs. tt) (λ c κs. tt) (λ c κs. tt) (λ c κs. tt) (λ c κs. tt)
+    (λ c κs. tt) (λ c κs. tt) (λ c κs. tt) returns)

@@ -1,0 +1,13 @@
+use Rattle.parts.specs.Shapes.{within}
+use mathlib.Core.Path.{refl}
+use Rattle.parts.proofs.shapes.within.Statement.{statement}
+use Rattle.parts.proofs.shapes.within.Tie as tie
+
+returns : tie.Need-returns
+unfolding within
+returns c = refl
+
+pub within-spec : {M : Type 1} → statement M
+within-spec =
+    tie.close (tie.spec
+    returns)

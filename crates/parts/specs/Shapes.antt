@@ -1,0 +1,81 @@
+-- Places in the bytes of a literal: "a position, sign, atom kind, result, K". A place past the end says that it isn't so.
+use Prim.Native.Nat.{ℕ, _+_}
+use mathlib.Core.Bool.{Bool, cond, not, _&&_, _||_}
+use mathlib.Core.List.{List}
+use lib.Dec.{leb}
+use lib.ListN.{length, drop}
+use Rattle.text.specs.Words.{bytes}
+use Rattle.text.specs.Read.{strip}
+use Rattle.text.specs.Places.{endOf}
+use Rattle.text.specs.Access.{skipItem, toItem, toArgument, places}
+
+-- Past these bytes, past an item, past an item and a space, at argument k.
+unfoldable pub stripAt : List ℕ → List ℕ → ℕ → ℕ
+stripAt p w at = endOf p (strip w (drop at p))
+
+unfoldable pub skipAt : List ℕ → ℕ → ℕ
+skipAt p at = endOf p (skipItem (drop at p))
+
+unfoldable pub nextAt : List ℕ → ℕ → ℕ
+nextAt p at = stripAt p (bytes " ") (skipAt p at)
+
+unfoldable pub argumentAt : List ℕ → ℕ → ℕ → ℕ
+argumentAt p at k = endOf p (toArgument k (drop at p))
+
+-- "Positions are counted from 0": the place of literal n of the clause that p begins with.
+unfoldable pub placeAt : List ℕ → ℕ → ℕ
+placeAt p n = endOf p (toItem n (drop (stripAt p (bytes "(or") 0) p))
+
+-- The atom of a positive literal, of a negative one.
+unfoldable pub positiveAt : List ℕ → ℕ → ℕ
+positiveAt p at = stripAt p (bytes "(+ ") at
+
+unfoldable pub negativeAt : List ℕ → ℕ → ℕ
+negativeAt p at = stripAt p (bytes "(- ") at
+
+-- The first term of a positive atom with this head.
+unfoldable pub firstAt : List ℕ → List ℕ → ℕ → ℕ
+firstAt p head at = stripAt p head (positiveAt p at)
+
+-- The first place if it is one, and else the second.
+unfoldable pub orElse : List ℕ → ℕ → ℕ → ℕ
+orElse p x y = cond (leb x (length p)) x y
+
+-- The second place if the first is one.
+unfoldable pub ifPlace : List ℕ → ℕ → ℕ → ℕ
+ifPlace p x y = cond (leb x (length p)) y (length p + 1)
+
+-- The result of an arrow atom whose object begins at o: after object, method and arguments.
+unfoldable pub resultAt : List ℕ → ℕ → ℕ
+resultAt p o = nextAt p (nextAt p (nextAt p o))
+
+-- The object of a positive arrow atom with one of two heads and a term result.
+unfoldable pub objectAt : List ℕ → List ℕ → List ℕ → ℕ → ℕ
+objectAt p v w at =
+    let o = orElse p (stripAt p v (positiveAt p at)) (stripAt p w (positiveAt p at)) in
+    ifPlace p (stripAt p (bytes "(") (resultAt p o)) o
+
+-- The places of the entries of the list that begins at `at`.
+unfoldable pub listAt : List ℕ → ℕ → List ℕ
+listAt line at = places line 33 (stripAt line (bytes "(let") at)
+
+-- A place of p.
+unfoldable pub within : List ℕ → ℕ → Bool
+within p x = leb x (length p)
+
+-- Two literals of one sign.
+unfoldable pub sameSignAt : List ℕ → ℕ → List ℕ → ℕ → Bool
+sameSignAt p i q j =
+    (within p (positiveAt p i) && within q (positiveAt q j)) || (within p (negativeAt p i) && within q (negativeAt q j))
+
+-- The atom of a literal of either sign.
+unfoldable pub atomAt : List ℕ → ℕ → ℕ
+atomAt p i = orElse p (positiveAt p i) (negativeAt p i)
+
+-- Two tests with one answer.
+abbrev pub equalTests : Bool → Bool → Bool
+equalTests x y = cond x y (not y)
+
+-- Both literals have the head of sv, or neither has.
+unfoldable pub sameArrowAt : List ℕ → ℕ → List ℕ → ℕ → Bool
+sameArrowAt p i q j = equalTests (within p (firstAt p (bytes "(sv ") i)) (within q (firstAt q (bytes "(sv ") j))

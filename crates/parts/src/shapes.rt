@@ -1,0 +1,177 @@
+// Where the literals of a clause and their terms stand; a place past the end says that the shape is another.
+use crate::access::skip;
+use crate::items::PLACES;
+use crate::items::argument as listed;
+use crate::items::item;
+use crate::items::starts;
+use logic::Link;
+use scan::words::word;
+ghost use mathlib.Core.Path.{_≡_};
+ghost use mathlib.Core.Bool.{_&&_, _||_};
+ghost use Rattle.text.specs.Heads.{head, linkKind};
+ghost use Rattle.text.specs.Words.{bytes};
+ghost use Rattle.parts.specs.Shapes.{stripAt, nextAt, argumentAt, placeAt, positiveAt, negativeAt, firstAt, orElse, ifPlace, resultAt, objectAt, listAt};
+ghost use Rattle.parts.specs.Shapes.{within as withinAt};
+ghost use Rattle.parts.specs.Shapes.{sameSignAt, atomAt, sameArrowAt, equalTests};
+
+// A place of the clause.
+pub fn within(clause: &[u8], at: usize) -> bool
+    ensures { λ r. ⌜ r ≡ withinAt (now (clause .entry)) at ⌝ }
+{
+    at <= clause.len()
+}
+
+pub fn both(x: bool, y: bool) -> bool
+    ensures { λ r. ⌜ r ≡ x && y ⌝ }
+{
+    if x { y } else { false }
+}
+
+fn either(x: bool, y: bool) -> bool
+    ensures { λ r. ⌜ r ≡ x || y ⌝ }
+{
+    if x { true } else { y }
+}
+
+fn equal(x: bool, y: bool) -> bool
+    ensures { λ r. ⌜ r ≡ equalTests x y ⌝ }
+{
+    if x { y } else { !y }
+}
+
+// Literal n of the clause.
+pub fn literal(clause: &[u8], n: usize) -> usize
+    ensures { λ r. ⌜ r ≡ placeAt (now (clause .entry)) n ⌝ }
+{
+    item(clause, word(clause, 0, b"(or"), n)
+}
+
+// The item after the one at `at`.
+pub fn next(clause: &[u8], at: usize) -> usize
+    ensures { λ r. ⌜ r ≡ nextAt (now (clause .entry)) at ⌝ }
+{
+    word(clause, skip(clause, at), b" ")
+}
+
+// The atom of a positive literal.
+pub fn positive(clause: &[u8], at: usize) -> usize
+    ensures { λ r. ⌜ r ≡ positiveAt (now (clause .entry)) at ⌝ }
+{
+    word(clause, at, b"(+ ")
+}
+
+// The atom of a negative literal.
+pub fn negative(clause: &[u8], at: usize) -> usize
+    ensures { λ r. ⌜ r ≡ negativeAt (now (clause .entry)) at ⌝ }
+{
+    word(clause, at, b"(- ")
+}
+
+fn or_else(clause: &[u8], x: usize, y: usize) -> usize
+    ensures { λ r. ⌜ r ≡ orElse (now (clause .entry)) x y ⌝ }
+{
+    if x <= clause.len() { x } else { y }
+}
+
+fn if_place(clause: &[u8], x: usize, y: usize) -> usize
+    ensures { λ r. ⌜ r ≡ ifPlace (now (clause .entry)) x y ⌝ }
+{
+    if x <= clause.len() {
+        y
+    } else {
+        clause.len() + 1
+    }
+}
+
+// The atom of a literal of either sign.
+pub fn atom(clause: &[u8], at: usize) -> usize
+    ensures { λ r. ⌜ r ≡ atomAt (now (clause .entry)) at ⌝ }
+{
+    or_else(clause, positive(clause, at), negative(clause, at))
+}
+
+// The literals at x of a and at y of b have one sign.
+pub fn same_sign(a: &[u8], x: usize, b: &[u8], y: usize) -> bool
+    ensures { λ r. ⌜ r ≡ sameSignAt (now (a .entry)) x (now (b .entry)) y ⌝ }
+{
+    let plus = both(within(a, positive(a, x)), within(b, positive(b, y)));
+    let minus = both(within(a, negative(a, x)), within(b, negative(b, y)));
+    either(plus, minus)
+}
+
+// The first term of a positive atom with this head.
+fn first(clause: &[u8], head: &[u8], at: usize) -> usize
+    ensures { λ r. ⌜ r ≡ firstAt (now (clause .entry)) (now (head .entry)) at ⌝ }
+{
+    word(clause, positive(clause, at), head)
+}
+
+// The first term of a positive eq, mem or sub.
+pub fn link(clause: &[u8], kind: Link, at: usize) -> usize
+    ensures { λ r. ⌜ r ≡ firstAt (now (clause .entry)) (head (linkKind kind)) at ⌝ }
+{
+    match kind {
+        Link::Eq => first(clause, b"(eq ", at),
+        Link::Mem => first(clause, b"(mem ", at),
+        Link::Sub => first(clause, b"(sub ", at),
+    }
+}
+
+// The term of a negative obj.
+pub fn denied(clause: &[u8], at: usize) -> usize
+    ensures { λ r. ⌜ r ≡ stripAt (now (clause .entry)) (bytes "(- (obj ") at ⌝ }
+{
+    word(clause, at, b"(- (obj ")
+}
+
+// The result of an arrow atom whose object begins at `object`.
+pub fn result(clause: &[u8], object: usize) -> usize
+    ensures { λ r. ⌜ r ≡ resultAt (now (clause .entry)) object ⌝ }
+{
+    next(clause, next(clause, next(clause, object)))
+}
+
+// Argument n of an arrow atom whose object begins at `object`.
+pub fn argument(clause: &[u8], object: usize, n: usize) -> usize
+    ensures { λ r. ⌜ r ≡ argumentAt (now (clause .entry)) (nextAt (now (clause .entry)) (nextAt (now (clause .entry)) object)) n ⌝ }
+{
+    listed(clause, next(clause, next(clause, object)), n)
+}
+
+// The object of a positive arrow atom with one of two heads and a term result.
+fn object(clause: &[u8], head: &[u8], other: &[u8], at: usize) -> usize
+    ensures { λ r. ⌜ r ≡ objectAt (now (clause .entry)) (now (head .entry)) (now (other .entry)) at ⌝ }
+{
+    let atom = positive(clause, at);
+    let o = or_else(clause, word(clause, atom, head), word(clause, atom, other));
+    if_place(clause, word(clause, result(clause, o), b"("), o)
+}
+
+// The object of a positive sv or si.
+pub fn scalar(clause: &[u8], at: usize) -> usize
+    ensures { λ r. ⌜ r ≡ objectAt (now (clause .entry)) (bytes "(sv ") (bytes "(si ") at ⌝ }
+{
+    object(clause, b"(sv ", b"(si ", at)
+}
+
+// The object of a positive st or mt with a term result.
+pub fn signature(clause: &[u8], at: usize) -> usize
+    ensures { λ r. ⌜ r ≡ objectAt (now (clause .entry)) (bytes "(st ") (bytes "(mt ") at ⌝ }
+{
+    object(clause, b"(st ", b"(mt ", at)
+}
+
+// The literals at x of a and at y of b both have the head of sv, or neither has.
+pub fn same_arrow(a: &[u8], x: usize, b: &[u8], y: usize) -> bool
+    ensures { λ r. ⌜ r ≡ sameArrowAt (now (a .entry)) x (now (b .entry)) y ⌝ }
+{
+    let sv = within(a, first(a, b"(sv ", x));
+    equal(sv, within(b, first(b, b"(sv ", y)))
+}
+
+// The places of the entries of the list of the line that begins at `at`.
+pub fn list(line: &[u8], at: usize) -> [usize; PLACES]
+    ensures { λ r. ⌜ r ≡ listAt (now (line .entry)) at ⌝ }
+{
+    starts(line, word(line, at, b"(let"))
+}

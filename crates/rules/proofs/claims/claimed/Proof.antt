@@ -1,0 +1,13 @@
+use Rattle.parts.specs.Shapes.{stripAt}
+use Rattle.rules.specs.Claim.{claimBy}
+use Rattle.rules.proofs.claims.claimed.Statement.{statement}
+use Rattle.rules.proofs.claims.claimed.Tie as tie
+
+returns : tie.Need-returns
+unfolding claimBy
+returns c = cc
+
+pub claimed-spec : {M : Type 1} → statement M
+claimed-spec =
+    tie.close (tie.spec
+    (λ c κs. tt) (λ c κs. tt) (λ c κs. tt) (λ c κs. tt) returns)

@@ -1,0 +1,138 @@
+-- Checks 9 and 10 in bytes: the rule table, row by row. The literals at I and J begin at the places i of p and j of q.
+use Prim.Native.Nat.{ℕ, _+_}
+use mathlib.Core.Bool.{Bool, true, false, cond, not, _&&_}
+use mathlib.Core.List.{List}
+use lib.Dec.{eqb}
+use lib.ListN.{length, drop}
+use Rattle.logic.specs.declared.Link.{Link}
+use Rattle.logic.specs.declared.Link.the-variants.{Eq, Mem, Sub}
+use Rattle.logic.specs.declared.Rule.{Rule}
+use Rattle.logic.specs.declared.Rule.the-variants.{Refl, Res, Fac, Par, Acy, Tra, Inc, Inh, Inp, Out, Sca, Eli}
+use Rattle.logic.specs.declared.Judged.{Judged}
+use Rattle.logic.specs.declared.Judged.the-variants.{Passed, Misshapen, Disagrees}
+use Rattle.text.specs.Words.{bytes}
+use Rattle.text.specs.Heads.{head, linkKind}
+use Rattle.text.specs.Places.{endOf}
+use Rattle.text.specs.Access.{toOccurrence}
+use Rattle.parts.specs.Shapes.{stripAt, nextAt, argumentAt, positiveAt, negativeAt, firstAt, resultAt, objectAt}
+use Rattle.filling.specs.Agree.{agreeAt, callsAt}
+use Rattle.parts.specs.Shapes.{within}
+use Rattle.filling.specs.Covers.{coversAt}
+use Rattle.parts.specs.Shapes.{sameSignAt, atomAt, sameArrowAt}
+use Rattle.table.specs.declared.rows.Kind.{Kind}
+use Rattle.table.specs.declared.rows.Kind.the-variants.{Reflexivity, Resolution, Factoring, Rewriting, Acyclicity, Scalarity, Elimination}
+use Rattle.table.specs.declared.rows.Target.{Target}
+use Rattle.table.specs.declared.rows.Target.the-variants.{Nothing, Occurrence, Subclass, Member, Object, Argument, Result}
+use Rattle.table.specs.declared.rows.Row.{Row}
+use Rattle.table.specs.declared.rows.Found.{Found}
+
+abbrev row : Kind → Target → Link → Bool → Row
+row kind target link forward = record { kind = kind; target = target; link = link; forward = forward }
+
+-- What a rule asks of its literals; of a rewriting rule the term of the literal at I that it replaces, the link at J, and whether the link's
+-- first term agrees and its second takes the term's place, or the other way round.
+abbrev pub rowOf : Rule → Row
+rowOf Refl = row Reflexivity Nothing Sub true
+rowOf Res = row Resolution Nothing Sub true
+rowOf Fac = row Factoring Nothing Sub true
+rowOf Par = row Rewriting Occurrence Eq true
+rowOf Acy = row Acyclicity Nothing Sub true
+rowOf Tra = row Rewriting Subclass Sub true
+rowOf Inc = row Rewriting Member Sub true
+rowOf Inh = row Rewriting Object Sub false
+rowOf Inp = row Rewriting Argument Sub false
+rowOf Out = row Rewriting Result Sub true
+rowOf Sca = row Scalarity Nothing Sub true
+rowOf Eli = row Elimination Nothing Sub true
+
+-- The term that a rewriting rule replaces: "term occurrence K", "counted from 0 in the literal at I before filling"; the second term of + sub or
+-- + mem; "+ st or mt with object P and a term result", "argument K", "a term result R".
+unfoldable pub partAt : Target → ℕ → List ℕ → ℕ → ℕ
+partAt Nothing k p at = length p + 1
+partAt Occurrence k p at = endOf p (toOccurrence k (drop at p))
+partAt Subclass k p at = nextAt p (firstAt p (head (linkKind Sub)) at)
+partAt Member k p at = nextAt p (firstAt p (head (linkKind Mem)) at)
+partAt Object k p at = objectAt p (bytes "(st ") (bytes "(mt ") at
+partAt Argument k p at = argumentAt p (nextAt p (nextAt p (objectAt p (bytes "(st ") (bytes "(mt ") at))) k
+partAt Result k p at = resultAt p (objectAt p (bytes "(st ") (bytes "(mt ") at)
+
+abbrev pub targetAt : List ℕ → Rule → ℕ → ℕ → ℕ
+targetAt p rule k at = partAt (rowOf rule .target) k p at
+
+-- "refl | no parent"; "eli | A only; - obj(P) at I": no term has to agree.
+abbrev pub denying : Kind → Bool → ℕ → Found
+denying kind shaped i = record { kind = kind; shaped = shaped; arrows = true; literal = i; left = 0; more = 0; right = 0; other = 0 }
+
+-- "res | - L at I, + L' at J": the two atoms.
+unfoldable pub resolved : List ℕ → ℕ → List ℕ → ℕ → Found
+resolved p i q j =
+    let x = negativeAt p i in
+    let y = positiveAt q j in
+    record { kind = Resolution; shaped = within p x && within q y; arrows = true; literal = i; left = x; more = 0; right = y; other = 0 }
+
+-- "fac | A only; I, J differ, same sign": q is p.
+unfoldable pub factored : List ℕ → ℕ → List ℕ → ℕ → Found
+factored p i q j =
+    record { kind = Factoring; shaped = not (eqb i j) && sameSignAt p i q j; arrows = true; literal = i; left = atomAt p i; more = 0; right = atomAt q j; other = 0 }
+
+-- par, tra, inc, inh, inp, out: the term, the side of the link that has to agree with it, and the other side.
+unfoldable pub replaced : Row → ℕ → List ℕ → ℕ → List ℕ → ℕ → Found
+replaced r k p i q j =
+    let x = partAt (r .target) k p i in
+    let y = firstAt q (head (linkKind (r .link))) j in
+    record {
+      kind = Rewriting;
+      shaped = within p x && within q (nextAt q y);
+      arrows = true;
+      literal = i;
+      left = x;
+      more = 0;
+      right = cond (r .forward) y (nextAt q y);
+      other = cond (r .forward) (nextAt q y) y;
+    }
+
+-- "acy | + sub(P,Q), + sub(Q',P')": P and Q, P' and Q'.
+unfoldable pub crossed : List ℕ → ℕ → List ℕ → ℕ → Found
+crossed p i q j =
+    let x = firstAt p (head (linkKind Sub)) i in
+    let y = firstAt q (head (linkKind Sub)) j in
+    record { kind = Acyclicity; shaped = within p (nextAt p x) && within q (nextAt q y); arrows = true; literal = i; left = x; more = nextAt p x; right = nextAt q y; other = y }
+
+-- "sca | two + sv or si atoms, results R, R'": the objects and the results, and whether the arrow is the same.
+unfoldable pub called : List ℕ → ℕ → List ℕ → ℕ → Found
+called p i q j =
+    let x = objectAt p (bytes "(sv ") (bytes "(si ") i in
+    let y = objectAt q (bytes "(sv ") (bytes "(si ") j in
+    record { kind = Scalarity; shaped = within p x && within q y; arrows = sameArrowAt p i q j; literal = i; left = x; more = resultAt p x; right = y; other = resultAt q y }
+
+-- The second column: "A position, sign, atom kind, result, K or pair I, J".
+unfoldable pub foundBy : Kind → Row → ℕ → List ℕ → ℕ → List ℕ → ℕ → Found
+foundBy Reflexivity r k p i q j = denying Reflexivity true i
+foundBy Resolution r k p i q j = resolved p i q j
+foundBy Factoring r k p i q j = factored p i q j
+foundBy Rewriting r k p i q j = replaced r k p i q j
+foundBy Acyclicity r k p i q j = crossed p i q j
+foundBy Scalarity r k p i q j = called p i q j
+foundBy Elimination r k p i q j = denying Elimination (within p (stripAt p (bytes "(- (obj ") i)) i
+
+abbrev pub foundAt : Rule → ℕ → List ℕ → ℕ → List ℕ → ℕ → Found
+foundAt rule k p i q j = foundBy (rowOf rule .kind) (rowOf rule) k p i q j
+
+-- The third column: "agreement, filled".
+unfoldable pub agreesBy : Kind → Found → List ℕ → List ℕ → List ℕ → List ℕ → List ℕ → Bool
+agreesBy Reflexivity f p line starts q others = true
+agreesBy Resolution f p line starts q others = coversAt p (f .left) line starts q (f .right) others
+agreesBy Factoring f p line starts q others = coversAt p (f .left) line starts q (f .right) others
+agreesBy Rewriting f p line starts q others = agreeAt p (f .left) line starts q (f .right) others
+agreesBy Acyclicity f p line starts q others = agreeAt p (f .left) line starts q (f .right) others && agreeAt p (f .more) line starts q (f .other) others
+agreesBy Scalarity f p line starts q others = callsAt (f .arrows) p (f .left) line starts q (f .right) others
+agreesBy Elimination f p line starts q others = true
+
+-- What checks 9 and 10 say.
+unfoldable pub answer : Bool → Bool → Judged
+answer shaped agrees = cond shaped (cond agrees Passed Disagrees) Misshapen
+
+unfoldable pub rowAt : Rule → ℕ → List ℕ → ℕ → List ℕ → List ℕ → List ℕ → ℕ → List ℕ → Judged
+rowAt rule k p i line starts q j others =
+    let f = foundAt rule k p i q j in
+    answer (f .shaped) (agreesBy (f .kind) f p line starts q others)
