@@ -9,9 +9,10 @@ use Rattle.text.specs.Read.{Parsed, bad, got, Reader, after, strip}
 use Rattle.text.specs.Places.{endOf}
 use Rattle.text.specs.Access.{skipItem, entryOf}
 use Rattle.text.proofs.Positions.{missing, there, strip-tail, skip-tail}
+use borrow.Author.Tests.{le-leb, lt-leb}
 use Rattle.filling.specs.declared.compare.Ends.{Ends}
 use Rattle.filling.specs.declared.compare.Walk.{Walk}
-use Rattle.filling.specs.Filled.{Filler, instead, indexed, front, inside, fillItem, plain, replacing, matches, endsOf}
+use Rattle.filling.specs.Filled.{Filler, instead, indexed, front, inside, fillItem, plain, replacing, matches, endsOf, endsAt}
 use Rattle.filling.proofs.Walk.{fill-zero, fill-empty, fill-hole, fill-variable, fill-bracket, fill-other, fill-shrinks, byte-here, byte-none, byte-other, Landed, missed, landed, land, Going, going-from, never-front, matching, le-or-lt, somewhere, lost as nowhere}
 use Rattle.filling.proofs.Answers.{ends-at, ends-bad}
 
@@ -81,26 +82,37 @@ module _ (x : Call) where
     unfolding replacing
     in-hole e = fill-hole (filler x) (x .depth) _ d (length-drop (x .at) (x .p) ∙ rw e)
 
-    pub hole-open : x .at ≡ x .hole → length (x .p) < endOf (x .p) (skipItem (drop (x .at) (x .p))) → whole x ≡ bad
+    hole-open : x .at ≡ x .hole → length (x .p) < endOf (x .p) (skipItem (drop (x .at) (x .p))) → whole x ≡ bad
     hole-open e l = lost _ (in-hole e ∙ rw (missing (x .p) (x .at) skip-tail l))
 
     module _ (e : x .at ≡ x .hole) (k : endOf (x .p) (skipItem (drop (x .at) (x .p))) ≤ length (x .p)) {r : Ends} (l : Landed (matching (fillItem (plain (x .line) (x .others)) (x .depth - 1))) (x .q) (x .t) (x .from) (x .pos) r) where
       filled : fillItem (filler x) (x .depth) (drop (x .at) (x .p)) ≡ instead (fillItem (plain (x .line) (x .others)) (x .depth - 1) (drop (x .from) (x .q))) (drop (endOf (x .p) (skipItem (drop (x .at) (x .p)))) (x .p))
       filled = in-hole e ∙ ap (λ y. after y (λ _. instead (fillItem (plain (x .line) (x .others)) (x .depth - 1) (drop (x .from) (x .q))))) (there (x .p) (x .at) skip-tail k .1)
 
-      pub hole-other : length (x .t) < r .pos → whole x ≡ bad
+      hole-other : length (x .t) < r .pos → whole x ≡ bad
       hole-other o = go l
         where
           go : Landed (matching (fillItem (plain (x .line) (x .others)) (x .depth - 1))) (x .q) (x .t) (x .from) (x .pos) r → whole x ≡ bad
           go (missed m n i) = rw filled (instead-lost _ _ _ m)
           go (landed a n i j) = absurd (omega arith)
 
-      pub hole-same : r .pos ≤ length (x .t) → whole x ≡ got (drop (r .pos) (x .t)) (drop (endOf (x .p) (skipItem (drop (x .at) (x .p)))) (x .p))
+      hole-same : r .pos ≤ length (x .t) → whole x ≡ got (drop (r .pos) (x .t)) (drop (endOf (x .p) (skipItem (drop (x .at) (x .p)))) (x .p))
       hole-same o = go l
         where
           go : Landed (matching (fillItem (plain (x .line) (x .others)) (x .depth - 1))) (x .q) (x .t) (x .from) (x .pos) r → whole x ≡ got (drop (r .pos) (x .t)) (drop (endOf (x .p) (skipItem (drop (x .at) (x .p)))) (x .p))
           go (missed m n i) = absurd (omega arith)
           go (landed a n i j) = rw filled (instead-got _ _ _ a)
+
+    -- Both places, as they were found.
+    pub hole-ends : x .at ≡ x .hole → {k : ℕ} → k ≡ endOf (x .p) (skipItem (drop (x .at) (x .p))) → {r : Ends} → Landed (matching (fillItem (plain (x .line) (x .others)) (x .depth - 1))) (x .q) (x .t) (x .from) (x .pos) r →
+        endsAt (x .p) k (x .t) (r .pos) ≡ endsOf (x .p) (x .t) (whole x)
+    unfolding endsAt
+    hole-ends e {k} s {r} l = go (le-or-lt k (length (x .p))) (le-or-lt (r .pos) (length (x .t)))
+      where
+        go : (k ≤ length (x .p)) ⊎ (length (x .p) < k) → (r .pos ≤ length (x .t)) ⊎ (length (x .t) < r .pos) → endsAt (x .p) k (x .t) (r .pos) ≡ endsOf (x .p) (x .t) (whole x)
+        go (inl h) (inl o) = rw (le-leb k (length (x .p)) h, le-leb (r .pos) (length (x .t)) o) (ends-at (x .p) (x .t) k (r .pos) h o (rw s (hole-same e (rw (← s) h) l o)))
+        go (inl h) (inr o) = rw (le-leb k (length (x .p)) h, lt-leb (r .pos) (length (x .t)) o, hole-other e (rw (← s) h) l o)
+        go (inr h) o = rw (lt-leb k (length (x .p)) h, hole-open e (rw (← s) h))
 
     module _ (n : x .at ≡ x .hole → ⊥) where
       apart : x .at < length (x .p) → length (drop (x .at) (x .p)) ≡ filler x .hole → ⊥

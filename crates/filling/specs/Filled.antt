@@ -2,7 +2,7 @@
 use Prim.Native.Nat.{ℕ, zero, suc, _+_, _-_}
 use mathlib.Core.Bool.{Bool, true, false, cond}
 use mathlib.Core.List.{List, [], _∷_, _++_}
-use lib.Dec.{eqb}
+use lib.Dec.{eqb, leb}
 use lib.ListN.{length, drop}
 use Rattle.text.specs.Read.{Parsed, bad, got, Reader, after, _>>=_, _>>_, return, Branch, _⇒_, orElse, oneOf, strip, skip, readNumber}
 use Rattle.text.specs.Access.{skipItem, entryOf}
@@ -73,6 +73,10 @@ matches (got ws rest) ts = after (strip ws ts) (λ _ left. got left rest)
 unfoldable pub endsOf : List ℕ → List ℕ → Parsed (List ℕ) → Ends
 endsOf s t bad = record { at = length s + 1; pos = length t + 1 }
 endsOf s t (got left rest) = record { at = length s - length rest; pos = length t - length left }
+
+-- The two places, where both are places of their texts.
+unfoldable pub endsAt : List ℕ → ℕ → List ℕ → ℕ → Ends
+endsAt s i t j = cond (leb i (length s)) (cond (leb j (length t)) (record { at = i; pos = j }) (endsOf s t bad)) (endsOf s t bad)
 
 -- Two insides byte by byte, nested items by `item`, up to the closing bracket: the bytes after it in the second, and in the first.
 unfoldable pub along : (List ℕ → List ℕ → Parsed (List ℕ)) → ℕ → List ℕ → List ℕ → Parsed (List ℕ)

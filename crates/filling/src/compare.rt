@@ -10,7 +10,7 @@ ghost use mathlib.Core.List.{[], _∷_};
 ghost use Rattle.text.specs.Places.{endOf};
 ghost use Rattle.text.specs.Read.{bad, strip};
 ghost use Rattle.text.specs.Access.{entryOf};
-ghost use Rattle.filling.specs.Filled.{fillItem, indexed, matches, endsOf, replacing, plain, both, sameItem, nestedIn, unbrokenAt};
+ghost use Rattle.filling.specs.Filled.{fillItem, indexed, matches, endsOf, replacing, plain, both, sameItem, nestedIn, unbrokenAt, endsAt};
 
 // Terms nest at most so deep.
 const TERM_DEPTH: usize = 16;
@@ -71,6 +71,19 @@ fn differ(clause: &[u8], other: &[u8]) -> Ends
     }
 }
 
+// The two places, where both are places of their texts.
+fn reach(clause: &[u8], at: usize, other: &[u8], pos: usize) -> Ends
+    ensures { λ r. ⌜ r ≡ endsAt (now (clause .entry)) at (now (other .entry)) pos ⌝ }
+{
+    if at > clause.len() {
+        return differ(clause, other);
+    }
+    if pos > other.len() {
+        return differ(clause, other);
+    }
+    Ends { at, pos }
+}
+
 // The place past this byte, if it stands at `at`.
 fn past(text: &[u8], at: usize, byte: u8) -> usize
     ensures { λ r. ⌜ r ≡ endOf (now (text .entry)) (strip (byte ∷ []) (drop at (now (text .entry)))) ⌝ }
@@ -128,17 +141,7 @@ pub fn expect(
     if at == w.hole {
         let new = unbroken(b, w.from, w.pos, w.depth - 1);
         let found = expect(b, second, &b[0..0], second, line, rest, new);
-        let end = skip(a, at);
-        if end > a.len() {
-            return differ(a, rest);
-        }
-        if found.pos > rest.len() {
-            return differ(a, rest);
-        }
-        return Ends {
-            at: end,
-            pos: found.pos,
-        };
+        return reach(a, skip(a, at), rest, found.pos);
     }
     let index = word(a, at, b"(v ");
     if index <= a.len() {

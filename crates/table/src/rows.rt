@@ -1,5 +1,5 @@
 // Checks 9 and 10: the rule table. The literals at I and J begin at the places x of clause a and y of clause b.
-use crate::uses::row;
+use crate::order::row;
 use filling::agree::agree;
 use filling::agree::calls;
 use filling::agree::covers;

@@ -1,9 +1,10 @@
 // Which of the numbers A I B J K each rule uses: checks 7 and 8 go by this table.
+use crate::order::row;
 use logic::Rule;
 use parts::shapes::both;
 ghost use mathlib.Core.Path.{_≡_};
 ghost use Rattle.logic.specs.Judge.{below as belowIf, zeroIfUnused};
-ghost use Rattle.table.specs.Uses.{ruleRow, usesAt, parentNumbers, unusedNumbers};
+ghost use Rattle.table.specs.Uses.{usesAt, parentNumbers, unusedNumbers};
 
 const USES: [[bool; 5]; 12] = [
     [false, false, false, false, false],
@@ -19,26 +20,6 @@ const USES: [[bool; 5]; 12] = [
     [true, true, true, true, false],
     [true, true, false, false, false],
 ];
-
-// The rule's row, in the order of the rule table.
-pub fn row(rule: Rule) -> usize
-    ensures { λ r. ⌜ r ≡ ruleRow rule ⌝ }
-{
-    match rule {
-        Rule::Refl => 0,
-        Rule::Res => 1,
-        Rule::Fac => 2,
-        Rule::Par => 3,
-        Rule::Acy => 4,
-        Rule::Tra => 5,
-        Rule::Inc => 6,
-        Rule::Inh => 7,
-        Rule::Inp => 8,
-        Rule::Out => 9,
-        Rule::Sca => 10,
-        Rule::Eli => 11,
-    }
-}
 
 // Whether the rule uses number `which` of A I B J K, counted from 0.
 pub fn used(rule: Rule, which: usize) -> bool

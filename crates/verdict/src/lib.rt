@@ -48,6 +48,13 @@ struct Checked {
     adds: Added,
 }
 
+// How many symbols, clauses and in lines were read.
+struct Counted {
+    symbols: usize,
+    clauses: usize,
+    inputs: usize,
+}
+
 // The number of the check of 7 to 11 that fails, or 0.
 fn number(j: Judged) -> usize
     ensures { λ r. ⌜ r ≡ judgedNumber j ⌝ }
@@ -93,16 +100,17 @@ fn ended(
     at: usize,
     line: &[u8],
     counts: &[u8],
-    symbols: usize,
     starts: &[u16],
     literals: &[u8],
     widths: &[u8],
-    clauses: usize,
-    inputs: usize,
+    n: Counted,
 ) -> Checked
-    requires { ⌜ symbols ≤ length (now counts) ⌝ }
-    ensures { λ r. ⌜ Ended (now (text .entry)) at (now (line .entry)) (heldAs (now (counts .entry)) symbols (now (starts .entry)) (now (literals .entry)) (now (widths .entry)) clauses inputs) r ⌝ }
+    requires { ⌜ n .symbols ≤ length (now counts) ⌝ }
+    ensures { λ r. ⌜ Ended (now (text .entry)) at (now (line .entry)) (heldAs (now (counts .entry)) (n .symbols) (now (starts .entry)) (now (literals .entry)) (now (widths .entry)) (n .clauses) (n .inputs)) r ⌝ }
 {
+    let symbols = n.symbols;
+    let clauses = n.clauses;
+    let inputs = n.inputs;
     let seen = see(&counts[..symbols], symbols, clauses, inputs, line);
     let failure = seen.failure;
     let l = seen.line;
@@ -111,8 +119,8 @@ fn ended(
         return Checked { failure, adds: a };
     }
     let f = l.form;
-    let n = form_number(f);
-    if n != STEP {
+    let form = form_number(f);
+    if form != STEP {
         return Checked { failure, adds: a };
     }
     let answer = judged(text, starts, literals, widths, clauses, line, l);
@@ -126,15 +134,13 @@ fn next(
     at: usize,
     end: usize,
     counts: &[u8],
-    symbols: usize,
     starts: &[u16],
     literals: &[u8],
     widths: &[u8],
-    clauses: usize,
-    inputs: usize,
+    n: Counted,
 ) -> Checked
-    requires { ⌜ (at < length (now text)) × (end ≡ lineEndAt (now text) at) × (symbols ≤ length (now counts)) ⌝ }
-    ensures { λ r. ⌜ Next (now (text .entry)) at (heldAs (now (counts .entry)) symbols (now (starts .entry)) (now (literals .entry)) (now (widths .entry)) clauses inputs) r ⌝ }
+    requires { ⌜ (at < length (now text)) × (end ≡ lineEndAt (now text) at) × (n .symbols ≤ length (now counts)) ⌝ }
+    ensures { λ r. ⌜ Next (now (text .entry)) at (heldAs (now (counts .entry)) (n .symbols) (now (starts .entry)) (now (literals .entry)) (now (widths .entry)) (n .clauses) (n .inputs)) r ⌝ }
 {
     if end >= text.len() {
         let a = Added {
@@ -155,12 +161,10 @@ fn next(
         at,
         &text[at..end],
         counts,
-        symbols,
         starts,
         literals,
         widths,
-        clauses,
-        inputs,
+        n,
     )
 }
 
@@ -213,18 +217,12 @@ fn read_on(text: &[u8]) -> Verdict
         let starts = state.starts;
         let literals = state.literals;
         let widths = state.widths;
-        let checked = next(
-            text,
-            at,
-            end,
-            &counts,
-            state.symbols,
-            &starts,
-            &literals,
-            &widths,
-            state.clauses,
-            state.inputs,
-        );
+        let n = Counted {
+            symbols: state.symbols,
+            clauses: state.clauses,
+            inputs: state.inputs,
+        };
+        let checked = next(text, at, end, &counts, &starts, &literals, &widths, n);
         let failure = checked.failure;
         if failure != 0 {
             return Verdict::Refused {

@@ -1,14 +1,14 @@
 -- `expect` meets its contract. The measure is the depth left; the loop goes over the inside of the item.
 use denote.Ref.{now}
 use Prim.Native.Nat.{ℕ, _+_, _-_, _<_}
-use mathlib.Core.Path.{refl, ap}
+use mathlib.Core.Path.{refl, ap, _∙_}
 use native.Mathlib.Omega.{arith}
 use lib.ListN.{length}
 use Rattle.filling.specs.declared.compare.Walk.{Walk}
 use Rattle.filling.specs.Filled.{plain}
 use Rattle.filling.proofs.Walk.{fill-shrinks, matching-shortens, land, beyond, going-part, going-closed, going-on, never-on, going-end}
 use Rattle.filling.proofs.Answers.{ends-at, ends-bad}
-use Rattle.filling.proofs.Expected.{call, filler, Loop, no-hole, no-depth, hole-open, hole-other, hole-same, at-variable, no-second, enters}
+use Rattle.filling.proofs.Expected.{call, filler, Loop, no-hole, no-depth, hole-ends, at-variable, no-second, enters}
 use borrow.Fn.Kinds.{In}
 use borrow.Fn.PlainCycle.{Measures, is, falls, and}
 use Rattle.filling.proofs.compare.expect.Reads as expect
@@ -18,6 +18,7 @@ use Rattle.filling.proofs.compare.differ.Reads as differ-reads
 use Rattle.filling.proofs.compare.expect_entry.Reads as expect-entry-reads
 use Rattle.filling.proofs.compare.nested.Reads as nested-reads
 use Rattle.filling.proofs.compare.past.Reads as past-reads
+use Rattle.filling.proofs.compare.reach.Reads as reach-reads
 use Rattle.filling.proofs.compare.unbroken.Reads as unbroken-reads
 use Rattle.parts.proofs.access.skip.Reads as skip-reads
 use Rattle.scan.proofs.words.word.Reads as word-reads
@@ -41,7 +42,7 @@ expect-μ-loop a first b second line rest w at index i₀ j₀ i j = length a - 
 
 -- the promises of the callees, and of `expect` itself below t
 abbrev callees : ℕ → expect-lts.Claims
-callees t = (differ-reads.Asked, differ-reads.Learnt, unbroken-reads.Asked, unbroken-reads.Learnt, expect-below t, expect.Post, skip-reads.Asked, skip-reads.Learnt, word-reads.Asked, word-reads.Learnt, expect-entry-reads.Asked, expect-entry-reads.Learnt, nested-reads.Asked, nested-reads.Learnt, past-reads.Asked, past-reads.Learnt)
+callees t = (differ-reads.Asked, differ-reads.Learnt, unbroken-reads.Asked, unbroken-reads.Learnt, expect-below t, expect.Post, skip-reads.Asked, skip-reads.Learnt, reach-reads.Asked, reach-reads.Learnt, word-reads.Asked, word-reads.Learnt, expect-entry-reads.Asked, expect-entry-reads.Learnt, nested-reads.Asked, nested-reads.Learnt, past-reads.Asked, past-reads.Learnt)
 
 expect-returns : (t : ℕ) → expect-lts.Need-returns (callees t) (expect-at t) expect.Post expect-Inv-loop expect-μ-loop
 expect-returns t c =
@@ -54,35 +55,22 @@ expect-expect-requires t c κs = (omega (arith, c .before .before .before .befor
 
 expect-returns-2 : (t : ℕ) → expect-lts.Need-returns-2 (callees t) (expect-at t) expect.Post expect-Inv-loop expect-μ-loop
 expect-returns-2 t c =
-    let a = c .before .before .before .before .before .before .before .before .before .before .before .before .before .before .before .before .before .args in
+    let a = c .before .before .before .before .before .before .before .before .before .before .before .before .before .before .before .before .args in
     let x = call (now (a .a)) (now (a .first)) (now (a .b)) (now (a .second)) (now (a .line)) (now (a .rest)) (a .w) in
-    ends-bad (x .p) (x .t) (c .differ2 .ensures) (hole-open x (omega arith) (c .before .before .before .before .before .before .before .if2 .taken) (omega (arith, c .before .before .skip .ensures)))
+    let r = land (matching-shortens (fill-shrinks (plain (x .line) (x .others)) (x .depth - 1))) (x .q) (x .t) (x .from) (x .pos) (rw (c .before .before .before .before .unbroken .ensures, no-hole (x .line) (x .others) (x .others) (length (x .q) - length (x .q)) (omega arith)) at (c .before .before .expect .ensures)) in
+    c .reach .ensures ∙ hole-ends x (omega arith) (c .before .before .before .before .before .before .if2 .taken) (c .before .skip .ensures) r
 
 expect-returns-3 : (t : ℕ) → expect-lts.Need-returns-3 (callees t) (expect-at t) expect.Post expect-Inv-loop expect-μ-loop
 expect-returns-3 t c =
-    let a = c .before .before .before .before .before .before .before .before .before .before .before .before .before .before .before .before .before .before .before .args in
-    let x = call (now (a .a)) (now (a .first)) (now (a .b)) (now (a .second)) (now (a .line)) (now (a .rest)) (a .w) in
-    let r = land (matching-shortens (fill-shrinks (plain (x .line) (x .others)) (x .depth - 1))) (x .q) (x .t) (x .from) (x .pos) (rw (c .before .before .before .before .before .before .before .unbroken .ensures, no-hole (x .line) (x .others) (x .others) (length (x .q) - length (x .q)) (omega arith)) at (c .before .before .before .before .before .expect .ensures)) in
-    ends-bad (x .p) (x .t) (c .differ3 .ensures) (hole-other x (omega arith) (c .before .before .before .before .before .before .before .before .before .if2 .taken) (omega (arith, c .before .before .before .before .skip .ensures)) r (omega arith))
-
-expect-returns-4 : (t : ℕ) → expect-lts.Need-returns-4 (callees t) (expect-at t) expect.Post expect-Inv-loop expect-μ-loop
-expect-returns-4 t c =
-    let a = c .before .before .before .before .before .before .before .before .before .before .before .before .before .before .before .before .before .before .args in
-    let x = call (now (a .a)) (now (a .first)) (now (a .b)) (now (a .second)) (now (a .line)) (now (a .rest)) (a .w) in
-    let r = land (matching-shortens (fill-shrinks (plain (x .line) (x .others)) (x .depth - 1))) (x .q) (x .t) (x .from) (x .pos) (rw (c .before .before .before .before .before .before .unbroken .ensures, no-hole (x .line) (x .others) (x .others) (length (x .q) - length (x .q)) (omega arith)) at (c .before .before .before .before .expect .ensures)) in
-    ends-at (x .p) (x .t) (c .before .before .before .skip .result) (c .before .before .before .before .expect .result .pos) (omega arith) (omega arith) (rw (c .before .before .before .skip .ensures) (hole-same x (omega arith) (c .before .before .before .before .before .before .before .before .if2 .taken) (omega (arith, c .before .before .before .skip .ensures)) r (omega arith)))
-
-expect-returns-5 : (t : ℕ) → expect-lts.Need-returns-5 (callees t) (expect-at t) expect.Post expect-Inv-loop expect-μ-loop
-expect-returns-5 t c =
     let a = c .before .before .before .before .before .before .before .before .before .before .before .before .before .before .args in
     let x = call (now (a .a)) (now (a .first)) (now (a .b)) (now (a .second)) (now (a .line)) (now (a .rest)) (a .w) in
     rw (at-variable x (omega arith) (c .before .before .before .before .if2 .left) (c .before .before .word .ensures) (omega arith)) (c .expect-entry .ensures)
 
-expect-returns-6 : (t : ℕ) → expect-lts.Need-returns-6 (callees t) (expect-at t) expect.Post expect-Inv-loop expect-μ-loop
-expect-returns-6 t c =
+expect-returns-4 : (t : ℕ) → expect-lts.Need-returns-4 (callees t) (expect-at t) expect.Post expect-Inv-loop expect-μ-loop
+expect-returns-4 t c =
     let a = c .before .before .before .before .before .before .before .before .before .before .before .before .before .before .before .before .before .before .before .args in
     let x = call (now (a .a)) (now (a .first)) (now (a .b)) (now (a .second)) (now (a .line)) (now (a .rest)) (a .w) in
-    ends-bad (x .p) (x .t) (c .differ4 .ensures) (no-second x (omega arith) (c .before .before .before .before .before .before .before .before .before .if2 .left) (omega (arith, c .before .before .before .before .before .before .before .word .ensures)) (c .before .before .before .before .word2 .ensures) (c .before .before .word3 .ensures) (omega arith))
+    ends-bad (x .p) (x .t) (c .differ2 .ensures) (no-second x (omega arith) (c .before .before .before .before .before .before .before .before .before .if2 .left) (omega (arith, c .before .before .before .before .before .before .before .word .ensures)) (c .before .before .before .before .word2 .ensures) (c .before .before .word3 .ensures) (omega arith))
 
 expect-loop-holds : (t : ℕ) → expect-lts.Need-loop-holds (callees t) (expect-at t) expect.Post expect-Inv-loop expect-μ-loop
 expect-loop-holds t c =
@@ -109,15 +97,15 @@ expect-loop-again t c =
     let r = land (matching-shortens (fill-shrinks (filler x) (x .depth - 1))) (x .p) (x .t) (l .i) (l .j) (rw (c .before .nested .ensures) at (c .expect2 .ensures)) in
     (omega arith, going-part (x .p) (x .t) (l .i) (l .j) (l .inv .1) (omega arith) (omega arith) r)
 
-expect-returns-7 : (t : ℕ) → expect-lts.Need-returns-7 (callees t) (expect-at t) expect.Post expect-Inv-loop expect-μ-loop
-expect-returns-7 t c =
+expect-returns-5 : (t : ℕ) → expect-lts.Need-returns-5 (callees t) (expect-at t) expect.Post expect-Inv-loop expect-μ-loop
+expect-returns-5 t c =
     let a = c .before .before .before .before .before .before .before .before .before .before .before .before .before .before .before .before .before .before .before .before .before .before .before .before .before .args in
     let x = call (now (a .a)) (now (a .first)) (now (a .b)) (now (a .second)) (now (a .line)) (now (a .rest)) (a .w) in
     let l = c .before .before .before .before .before .before .loop in
-    ends-bad (x .p) (x .t) (c .differ5 .ensures) (never-on (x .p) (x .t) (l .i) (l .j) (l .inv .1) (omega arith) (omega arith) (c .before .before .past .ensures) (omega arith))
+    ends-bad (x .p) (x .t) (c .differ3 .ensures) (never-on (x .p) (x .t) (l .i) (l .j) (l .inv .1) (omega arith) (omega arith) (c .before .before .past .ensures) (omega arith))
 
-expect-returns-8 : (t : ℕ) → expect-lts.Need-returns-8 (callees t) (expect-at t) expect.Post expect-Inv-loop expect-μ-loop
-expect-returns-8 t c =
+expect-returns-6 : (t : ℕ) → expect-lts.Need-returns-6 (callees t) (expect-at t) expect.Post expect-Inv-loop expect-μ-loop
+expect-returns-6 t c =
     let a = c .before .before .before .before .before .before .before .before .before .before .before .before .before .before .before .before .before .before .before .before .before .before .before .before .before .args in
     let x = call (now (a .a)) (now (a .first)) (now (a .b)) (now (a .second)) (now (a .line)) (now (a .rest)) (a .w) in
     let l = c .before .before .before .before .before .before .loop in
@@ -133,19 +121,19 @@ expect-loop-again-2 t c =
     let l = c .before .before .before .before .before .before .loop in
     (omega arith, going-on (x .p) (x .t) (l .i) (l .j) (l .inv .1) (omega arith) (omega arith) (c .before .before .past .ensures) (omega arith) (omega arith))
 
-expect-returns-9 : (t : ℕ) → expect-lts.Need-returns-9 (callees t) (expect-at t) expect.Post expect-Inv-loop expect-μ-loop
-expect-returns-9 t c =
+expect-returns-7 : (t : ℕ) → expect-lts.Need-returns-7 (callees t) (expect-at t) expect.Post expect-Inv-loop expect-μ-loop
+expect-returns-7 t c =
     let a = c .before .before .before .before .before .before .before .before .before .before .before .before .before .before .before .before .before .before .before .before .before .args in
     let x = call (now (a .a)) (now (a .first)) (now (a .b)) (now (a .second)) (now (a .line)) (now (a .rest)) (a .w) in
     let l = c .before .before .loop in
-    ends-bad (x .p) (x .t) (c .differ6 .ensures) (going-end (x .p) (x .t) (l .i) (l .j) (l .inv .1) (omega arith))
+    ends-bad (x .p) (x .t) (c .differ4 .ensures) (going-end (x .p) (x .t) (l .i) (l .j) (l .inv .1) (omega arith))
 
 pub +expect-spec : {M : Type 1} → statement M
 +expect-spec = close μ-expect λ t. expect-lts.spec (callees t) (expect-at t) expect.Post expect-Inv-loop expect-μ-loop
     (λ c κs. tt) (expect-returns t) (λ c. omega arith) (λ c κs. tt) (λ c. omega arith) (λ c. omega arith)
-    (λ c. omega arith) (expect-expect-requires t) (λ c κs. tt) (λ c κs. tt) (expect-returns-2 t) (λ c κs. tt)
-    (expect-returns-3 t) (expect-returns-4 t) (λ c. refl) (λ c κs. tt) (λ c κs. tt) (expect-returns-5 t) (λ c. refl)
-    (λ c κs. tt) (λ c. refl) (λ c κs. tt) (λ c κs. tt) (expect-returns-6 t) (expect-loop-holds t) (λ c. omega arith)
-    (λ c. omega arith) (λ c κs. tt) (expect-expect-requires-2 t) (expect-loop-less t) (expect-loop-again t)
-    (λ c κs. tt) (λ c κs. tt) (expect-returns-7 t) (λ c. omega arith) (expect-returns-8 t) (expect-loop-less-2 t)
-    (expect-loop-again-2 t) (λ c κs. tt) (expect-returns-9 t)
+    (λ c. omega arith) (expect-expect-requires t) (λ c κs. tt) (λ c κs. tt) (expect-returns-2 t) (λ c. refl)
+    (λ c κs. tt) (λ c κs. tt) (expect-returns-3 t) (λ c. refl) (λ c κs. tt) (λ c. refl) (λ c κs. tt) (λ c κs. tt)
+    (expect-returns-4 t) (expect-loop-holds t) (λ c. omega arith) (λ c. omega arith) (λ c κs. tt)
+    (expect-expect-requires-2 t) (expect-loop-less t) (expect-loop-again t) (λ c κs. tt) (λ c κs. tt)
+    (expect-returns-5 t) (λ c. omega arith) (expect-returns-6 t) (expect-loop-less-2 t) (expect-loop-again-2 t)
+    (λ c κs. tt) (expect-returns-7 t)
