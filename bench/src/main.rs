@@ -1,14 +1,19 @@
 //! Times the proved checker, through its static library, beside the second
-//! checker, on the same texts and in one run, and prints their ratios and the
+//! checker, on the same texts and in one run, and prints their ratios, what does
+//! not depend on the machine (instructions a byte, bytes moved a line) and the
 //! stack that the proved one needs. It tells; it fails only where the two
 //! differ or a text is not what its family says.
 
+mod counts;
+mod machine;
 mod stack;
+mod stored;
 mod texts;
 
 use std::hint::black_box;
 use std::time::{Duration, Instant};
 
+use counts::Counts;
 use second::Verdict;
 use texts::{Family, Text};
 
@@ -18,33 +23,34 @@ const SAMPLE: Duration = Duration::from_millis(4);
 const SAMPLES: usize = 25;
 
 fn main() {
-    let texts = texts::all();
+    println!("{}\n", machine::description());
     println!(
-        "{:<44} {:>6} {:>5} {:>12} {:>10} {:>6} {:>5}",
-        "text", "bytes", "lines", "second (us)", "fcheck", "ratio", "goal"
+        "{:<36} {:>7} {:>6} {:>11} {:>9} {:>6} {:>5} {:<7} {:>10} {:>10}",
+        "text",
+        "bytes",
+        "lines",
+        "second (us)",
+        "fcheck",
+        "ratio",
+        "goal",
+        "",
+        "instr/byte",
+        "moved/line"
     );
     let mut sizes = Vec::new();
     let mut most = 0;
-    for text in &texts {
+    for text in &texts::all() {
         hold(text);
-        let (second, fcheck) = measure(&text.bytes);
-        let ratio = fcheck / second;
-        let goal = text.family.goal();
-        let verdict = if ratio <= goal { "met" } else { "MISSED" };
-        println!(
-            "{:<44} {:>6} {:>5} {:>12.1} {:>10.1} {:>6.2} {:>5} {verdict}",
-            text.name,
-            text.bytes.len(),
-            text.lines(),
-            second,
-            fcheck,
-            ratio,
-            format!("{goal:.1}"),
-        );
+        let (second, fcheck) = measure(&text.parts);
         if text.family == Family::Size {
-            sizes.push((text.bytes.len() as f64, second, fcheck));
+            sizes.push((text.bytes() as f64, second, fcheck));
         }
-        most = most.max(stack::used(&text.bytes));
+        print_row(text, second, fcheck, &counts::of(&text.parts));
+        most = text
+            .parts
+            .iter()
+            .map(|part| stack::used(part))
+            .fold(most, usize::max);
     }
     println!("\nnanoseconds a byte, by size (linear: the same)");
     for (bytes, second, fcheck) in &sizes {
@@ -58,25 +64,62 @@ fn main() {
     println!("\nstack that fcheck needed on these texts: at most {most} bytes");
 }
 
-/// Holds both checkers to what the text is made for.
-fn hold(text: &Text) {
-    let second = second::check(&text.bytes);
-    let right = match (text.family, second) {
-        (Family::Late, Verdict::Refused { number, line }) => number == 11 && line == text.lines(),
-        (Family::Late, _) => false,
-        (_, Verdict::Refused { .. }) => false,
-        _ => true,
+fn print_row(text: &Text, second: f64, fcheck: f64, counts: &Counts) {
+    let ratio = fcheck / second;
+    let goal = text.family.goal();
+    let verdict = if ratio <= goal { "met" } else { "MISSED" };
+    let each = |count: Option<u64>, of: usize| {
+        count.map_or("-".into(), |count| {
+            format!("{:.1}", count as f64 / of as f64)
+        })
     };
-    assert!(right, "{}: the second checker says {second}", text.name);
-    let fcheck = fcheck::check(&text.bytes);
-    assert_eq!(fcheck.to_string(), second.to_string(), "{}", text.name);
+    println!(
+        "{:<36} {:>7} {:>6} {:>11.1} {:>9.1} {:>6.2} {:>5.1} {:<7} {:>10} {:>10}",
+        text.name,
+        text.bytes(),
+        text.lines(),
+        second,
+        fcheck,
+        ratio,
+        goal,
+        verdict,
+        each(counts.instructions, text.bytes()),
+        each(counts.moved, text.lines()),
+    );
 }
 
-/// The microseconds that a call of each checker takes: the least of the
+/// Holds both checkers to what the text is made for.
+fn hold(text: &Text) {
+    for part in &text.parts {
+        let second = second::check(part);
+        let right = match (text.family, second) {
+            (Family::Corpus, _) => true,
+            (Family::Late, Verdict::Refused { number, line }) => {
+                number == 11 && line == text.lines()
+            }
+            (Family::Late, _) => false,
+            (_, Verdict::Refused { .. }) => false,
+            _ => true,
+        };
+        assert!(right, "{}: the second checker says {second}", text.name);
+        let fcheck = fcheck::check(part);
+        assert_eq!(fcheck.to_string(), second.to_string(), "{}", text.name);
+    }
+}
+
+/// The microseconds that each checker takes for the texts: the least of the
 /// samples, since whatever else runs can only add to one.
-fn measure(text: &[u8]) -> (f64, f64) {
-    let second = || _ = black_box(second::check(black_box(text)));
-    let fcheck = || _ = black_box(fcheck::check(black_box(text)));
+fn measure(parts: &[Vec<u8>]) -> (f64, f64) {
+    let second = || {
+        parts
+            .iter()
+            .for_each(|text| _ = black_box(second::check(black_box(text))))
+    };
+    let fcheck = || {
+        parts
+            .iter()
+            .for_each(|text| _ = black_box(fcheck::check(black_box(text))))
+    };
     let (second_calls, fcheck_calls) = (calls(&second), calls(&fcheck));
     let mut least = (f64::MAX, f64::MAX);
     for _ in 0..SAMPLES {

@@ -1,5 +1,8 @@
 //! The texts, by family.
 
+use std::path::Path;
+
+use crate::stored;
 use second::generate::derive::{derive, Derivation, Style};
 use second::generate::model::{write_lines, Step, RULES};
 use second::generate::random::Random;
@@ -10,30 +13,47 @@ use second::{MAX_BYTES, MAX_LINES};
 pub enum Family {
     /// Accepted: ordinary clauses, as many bytes as a text may have.
     Ordinary,
-    /// Accepted: one long parent that hundreds of steps use.
+    /// Accepted: one long parent without variables that a thousand steps use.
     LongParent,
+    /// Accepted: one long parent with variables that a thousand steps fill.
+    FilledParent,
     /// Accepted: deep terms and full lists.
     DeepAndFull,
     /// Refused by 11 at the last line.
     Late,
     /// Accepted: ordinary clauses, in three sizes.
     Size,
+    /// Accepted: many short lines.
+    Short,
+    /// Accepted: a table of symbols and facts, no step.
+    Facts,
+    /// Accepted: refl steps.
+    Reflexive,
+    /// The stored corpus: texts of all kinds.
+    Corpus,
+    /// Accepted: long literals, all variables, filled by long entries in both parents.
+    FilledBoth,
 }
 
 impl Family {
     /// The ratio to stay within.
     pub fn goal(self) -> f64 {
         match self {
-            Family::Ordinary => 1.0,
-            _ => 1.5,
+            Family::Ordinary => 0.7,
+            Family::LongParent => 0.6,
+            Family::FilledParent => 1.2,
+            Family::Short => 1.5,
+            Family::Facts | Family::Reflexive => 0.8,
+            _ => 1.0,
         }
     }
 }
 
+/// One text or several that are timed together.
 pub struct Text {
     pub name: &'static str,
     pub family: Family,
-    pub bytes: Vec<u8>,
+    pub parts: Vec<Vec<u8>>,
 }
 
 impl Text {
@@ -41,12 +61,17 @@ impl Text {
         Text {
             name,
             family,
-            bytes,
+            parts: vec![bytes],
         }
     }
 
+    pub fn bytes(&self) -> usize {
+        self.parts.iter().map(Vec::len).sum()
+    }
+
     pub fn lines(&self) -> usize {
-        self.bytes.iter().filter(|&&byte| byte == b'\n').count()
+        let ends = |part: &Vec<u8>| part.iter().filter(|&&byte| byte == b'\n').count();
+        self.parts.iter().map(ends).sum()
     }
 }
 
@@ -60,7 +85,7 @@ pub fn all() -> Vec<Text> {
     vec![
         Text::new("a  ordinary clauses", Ordinary, ordinary),
         Text::new("b  a long parent", LongParent, long.clone()),
-        Text::new("b  a long parent, filled", LongParent, filled),
+        Text::new("b  a long parent, filled", FilledParent, filled),
         Text::new("c  deep terms in full lists", DeepAndFull, deep.clone()),
         Text::new("c  full lists of short terms", DeepAndFull, full.clone()),
         Text::new("d  ordinary clauses, refused late", Late, ordinary_late()),
@@ -70,6 +95,15 @@ pub fn all() -> Vec<Text> {
         Text::new("e  ordinary clauses, 4 KB", Size, sized(4 * 1024)),
         Text::new("e  ordinary clauses, 16 KB", Size, sized(16 * 1024)),
         Text::new("e  ordinary clauses, 64 KB", Size, sized(64 * 1024 - 1)),
+        Text::new("f  many short lines", Short, short_lines()),
+        Text::new("g  facts", Facts, facts()),
+        Text::new("h  refl steps", Reflexive, refl_steps()),
+        corpus(),
+        Text::new(
+            "j  long filled against long filled",
+            FilledBoth,
+            filled_both(),
+        ),
     ]
 }
 
@@ -196,6 +230,53 @@ fn full_lists() -> Vec<u8> {
         format!("{SYMBOLS}(in (or (- (mem (v 31) (v 0)))))\n(in (or (+ (mem (v 0) (v 31)))))\n"),
         &format!("(by res 0 0 1 0 0 {lists} (or))\n"),
     )
+}
+
+/// Empty inputs, up to the last line that a text may have.
+fn short_lines() -> Vec<u8> {
+    filled_with(SYMBOLS.into(), "(in (or))\n")
+}
+
+/// 200 symbols without terms, and one-literal facts about them.
+fn facts() -> Vec<u8> {
+    let mut text = "(sym 0)\n".repeat(200);
+    for number in 0..MAX_LINES - 200 {
+        let (member, class) = (number % 200, number * 7 % 200);
+        text.push_str(&format!("(in (or (+ (mem (f {member}) (f {class})))))\n"));
+    }
+    text.into_bytes()
+}
+
+fn refl_steps() -> Vec<u8> {
+    let line = "(by refl 0 0 0 0 0 (let (f 0)) (let) (or (+ (sub (f 0) (f 0)))))\n";
+    (SYMBOLS.to_string() + &line.repeat(980)).into_bytes()
+}
+
+/// Two parents of one literal with 1,024 variables, resolved 20 times, each
+/// filled by an entry of 1,013 bytes.
+fn filled_both() -> Vec<u8> {
+    let eight = |part: &str| format!("(f 2{})", format!(" {part}").repeat(8));
+    let variables = eight(&eight(&eight("(v 0)")));
+    let parts = [eight("(f 1 (f 1 (f 0)))"), eight("(f 1 (f 0))")];
+    let entry = format!("(f 2{})", format!(" {} {}", parts[0], parts[1]).repeat(4));
+    let mut text = SYMBOLS.to_string();
+    for sign in ["-", "+"] {
+        text.push_str(&format!(
+            "(in (or ({sign} (mem {variables} {variables}))))\n"
+        ));
+    }
+    text.push_str(&format!("(by res 0 0 1 0 0 (let {entry}) (let {entry}) (or))\n").repeat(20));
+    text.into_bytes()
+}
+
+/// The texts of the corpus that the gate runs.
+fn corpus() -> Text {
+    let file = Path::new(env!("CARGO_MANIFEST_DIR")).join("../crates/corpus/data/corpus.bin");
+    Text {
+        name: "i  the stored corpus",
+        family: Family::Corpus,
+        parts: stored::texts(&file),
+    }
 }
 
 /// The text, whose last claim has one literal more.

@@ -1,17 +1,21 @@
-/* Prints the verdict on the text on standard input, through the static library. */
+/* Prints the verdict on the text on standard input, through the static library. The exit status is 0 where the text is accepted, 1 where it
+   is refused, and 2 where standard input can't be read or the verdict can't be written. */
 #include <stdio.h>
 
 #include "fcheck.h"
+
+enum { ACCEPTED = 0, REFUSED = 1, FAILED = 2 };
 
 /* One byte more than a text may have: a longer text is refused by its length. */
 static uint8_t text[65536];
 
 int main(void) {
     size_t first, second;
+    int status = ACCEPTED;
     size_t length = fread(text, 1, sizeof text, stdin);
     if (ferror(stdin)) {
         fputs("check: standard input can't be read\n", stderr);
-        return 1;
+        return FAILED;
     }
     switch (fcheck_check(text, length, &first, &second)) {
     case FCHECK_REFUTED:
@@ -22,6 +26,11 @@ int main(void) {
         break;
     default:
         printf("refused %zu %zu\n", first, second);
+        status = REFUSED;
     }
-    return 0;
+    if (fflush(stdout) != 0) {
+        fputs("check: the verdict can't be written\n", stderr);
+        return FAILED;
+    }
+    return status;
 }

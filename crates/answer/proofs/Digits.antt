@@ -1,10 +1,9 @@
 -- The digits that `io::decimal` gives are the numeral.
-use Prim.Native.Nat.{ℕ, zero, suc, _+_, _-_, _*_, _/_, _%_, _^_, _≤_, _<_}
+use Prim.Native.Nat.{ℕ, zero, suc, _+_, _-_, _/_, _%_, _^_, _≤_, _<_}
 use mathlib.Core.Path.{_≡_, refl, sym, ap, _∙_, subst}
-use mathlib.Core.Bool.{Bool, cond, true, false}
+use mathlib.Core.Bool.{Bool, true, false}
 use mathlib.Core.List.{List, [], _∷_, _++_, append-assoc, append-nil}
 use native.Mathlib.Nat.{pow-suc, mod-eq-of-lt, mod-lt, div-lt-iff-lt-mul, le-div-iff-mul-le, one-le-pow, pow-le-pow-right}
-use native.Mathlib.Numerals.{add-one}
 use native.Mathlib.Omega.{arith}
 use lib.Dec.{ltb, leb, lit<}
 use borrow.Author.Tests.{lt-ltb, le-ltb, leb-true, leb-false}

@@ -1,20 +1,24 @@
--- "The program `fcheck` .. prints one line: the word refuted, open or refused, then the verdict's numbers."
+-- V27: "The program `fcheck` .. prints one line: the word refuted, open or refused, and then the numbers of the verdict."
 use Prim.Native.Nat.{ℕ}
 use mathlib.Core.List.{List, [], _∷_, _++_}
 use Rattle.text.specs.Words.{bytes, lineEnd}
 use Rattle.text.specs.Write.{putNumber}
 use Rattle.verdict.specs.declared.Verdict.{Verdict}
-use Rattle.verdict.specs.Answer.{word, numbers}
+use Rattle.verdict.specs.Means.{verdictWord, numbers}
 
--- A number in decimal without leading zeros.
+-- V28, T4: a number in decimal without leading zeros.
 unfoldable pub numeral : ℕ → List ℕ
 numeral n = putNumber n []
 
--- Each number after a space.
+-- V28: "one space before each number".
 unfoldable pub spaced : List ℕ → List ℕ
 spaced [] = []
 spaced (n ∷ ns) = (32 ∷ numeral n) ++ spaced ns
 
--- The line, with its line end.
+-- V28: a word, numbers and the line end.
+unfoldable pub lineOf : List ℕ → List ℕ → List ℕ
+lineOf word ns = word ++ (spaced ns ++ lineEnd ∷ [])
+
+-- V27: the line of a verdict.
 unfoldable pub written : Verdict → List ℕ
-written v = bytes (word v) ++ (spaced (numbers v) ++ lineEnd ∷ [])
+written v = lineOf (bytes (verdictWord v)) (numbers v)

@@ -42,8 +42,10 @@ pub extern "C" fn fcheck_check(text: &[u8], first: &mut usize, second: &mut usiz
     ensures { λ r. ⌜ r ≡ wordNumber (verdict office (now (text .entry))) ⌝ }
     ensures { λ _. ⌜ now (first .exit) ≡ firstNumber (verdict office (now (text .entry))) ⌝ }
     ensures { λ _. ⌜ now (second .exit) ≡ secondNumber (verdict office (now (text .entry))) ⌝ }
+    ensures { λ _. ⌜ now (text .exit) ≡ now (text .entry) ⌝ }
 {
-    let v = verdict::check(text);
+    let answer = verdict::check(text);
+    let v = answer.verdict;
     *first = first_number(v);
     *second = second_number(v);
     word(v)

@@ -2,6 +2,8 @@
 // bytes, the lowest first, and then its bytes, at most 65,536.
 ghost use Prim.Native.Nat.{_<_};
 use libc::STDERR_FILENO;
+use libc::STDOUT_FILENO;
+use verdict::Verdict;
 
 fn wide(x: u8) -> usize
     ensures { λ r. ⌜ r < 256 ⌝ }
@@ -12,6 +14,17 @@ fn wide(x: u8) -> usize
 // The number that four bytes give.
 fn length_of(b: &[u8; 4]) -> usize {
     wide(b[0]) + 256 * wide(b[1]) + 65536 * wide(b[2]) + 16777216 * wide(b[3])
+}
+
+// Prints the verdict's line, and answers whether all of it was written.
+fn print(v: Verdict) -> bool {
+    let mut out = [0u8; 64];
+    let n = answer::line(v, &mut out);
+    let done = io::write_all(STDOUT_FILENO, &out[..n]);
+    if !done {
+        io::write_all(STDERR_FILENO, b"corpus: standard output can't be written\n");
+    }
+    done
 }
 
 // Reads a text of n bytes and prints its verdict, and answers whether to go on.
@@ -26,7 +39,9 @@ fn answer_next(fd: i32, n: usize) -> bool {
         io::write_all(STDERR_FILENO, b"corpus: a text is cut short\n");
         return false;
     }
-    answer::print(verdict::check(&text[..n]))
+    let answer = verdict::check(&text[..n]);
+    let v = answer.verdict;
+    print(v)
 }
 
 // Reads a text's length and then the text, and answers whether to go on.

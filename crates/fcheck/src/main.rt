@@ -1,7 +1,9 @@
 // Reads a text from standard input and prints its verdict.
-ghost use Rattle.fcheck.specs.Reading.{Within};
+ghost use Rattle.fcheck.specs.ReadText.{InBuffer};
 use libc::STDERR_FILENO;
 use libc::STDIN_FILENO;
+use libc::STDOUT_FILENO;
+use verdict::Verdict;
 
 // What came of reading.
 enum Input {
@@ -12,7 +14,7 @@ enum Input {
 
 // Reads into text until it is full, the input ends or a read fails.
 fn read_text(text: &mut [u8]) -> Input
-    ensures { λ r. ⌜ Within (now (text .exit)) r ⌝ }
+    ensures { λ r. ⌜ InBuffer (now (text .exit)) r ⌝ }
 {
     let mut at = 0;
     while at < text.len() {
@@ -29,17 +31,37 @@ fn read_text(text: &mut [u8]) -> Input
     Input::Bytes(at)
 }
 
+// Prints the verdict's line.
+fn print(v: Verdict) {
+    let mut out = [0u8; 64];
+    let n = answer::line(v, &mut out);
+    if !io::write_all(STDOUT_FILENO, &out[..n]) {
+        io::write_all(STDERR_FILENO, b"fcheck: standard output can't be written\n");
+    }
+}
+
 // The buffer has one byte more than a text may have: where it is full the text has too many, which
 // `check` sees by its length, and nothing more is read.
-fn main() {
+fn check_input() {
     let mut text = io::large_buffer();
     let input = read_text(&mut text);
     match input {
         Input::Bytes(n) => {
-            answer::print(verdict::check(&text[..n]));
+            let answer = verdict::check(&text[..n]);
+            let v = answer.verdict;
+            print(v);
         }
         Input::Failed => {
             io::write_all(STDERR_FILENO, b"fcheck: standard input can't be read\n");
         }
     }
+}
+
+// The first argument is the program's name, and there are no others.
+fn main() {
+    if os::arg_count() > 1 {
+        io::write_all(STDERR_FILENO, b"usage: fcheck < TEXT\n");
+        return;
+    }
+    check_input();
 }

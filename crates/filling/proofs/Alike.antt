@@ -13,14 +13,14 @@ use Rattle.logic.specs.Each.{termWidth, termsWidth}
 use Rattle.logic.specs.Fill.{Substitution, fill, fills, fillAtom}
 use Rattle.text.specs.Write.{putNumber, putTerm, putArguments, putAtom}
 use Rattle.text.specs.Form.{formedNumber, formedTerm, formedTerms, formedAtom}
-use Rattle.text.specs.Read.{Parsed, bad, got, Reader, after, oneOf, strip, digit}
+use Rattle.text.specs.Read.{Parsed, bad, got, Reader, andThen, oneOf, strip, digit}
 use Rattle.text.specs.Access.{closing, skipItem}
 use Rattle.text.proofs.Tests.{onTest}
 use Rattle.text.proofs.Gives.{Gives, nothing, gives, given, weaken, bind, strip-gives, none, branch, oneOf-meets}
 use Rattle.text.proofs.Number.{number-complete}
 use Rattle.text.proofs.Trees.{Tree, var, node, Trees, end, byte, part, putTree, putInside, Clean, CleanIn, Within, WithinIn, Below, treeTerm, treeArguments, treeAtom, put-term, put-arguments, put-atom, clean-term, clean-arguments, clean-atom, within-term, within-arguments, within-atom}
 use Rattle.text.proofs.Nesting.{inner-tests}
-use Rattle.filling.specs.Filled.{Filler, front, insideUpTo, inside, readIndex, indexed, instead, fillItem, matches, along, whole, both, turned, sameItem}
+use Rattle.filling.specs.Filled.{Filler, prefixed, insideUpTo, inside, readIndex, indexed, instead, fillItem, matches, along, nothingLeft, both, turned, sameItem}
 use Rattle.filling.proofs.Filling.{fillTree, fillTrees, tree-longer, not-variable, Clear, after-it, fill-tree, trees, tree-term, tree-arguments, tree-atom}
 use Rattle.filling.proofs.Walk.{Pair, inside-open, inside-close, inside-on, fill-shrinks, fill-variable, fill-bracket}
 use Rattle.filling.proofs.Sameness.{variable, same-first, same-second, same-nested, turned-gives}
@@ -31,7 +31,7 @@ strip-self [] = refl
 strip-self (b ∷ w) = rw (eq-eqb b b refl, strip-self w)
 
 both-same : (w rest other : List ℕ) → both (got w rest) (got w other) ≡ got other rest
-unfolding both whole matches
+unfolding both nothingLeft matches
 both-same w rest other = rw (strip-self w)
 
 turned-same : (w v rest other : List ℕ) → v ≡ w → turned (both (got w other) (got v rest)) ≡ got other rest
@@ -50,7 +50,7 @@ pub no-variable : (ts : Trees) → Clean (node ts) → (rest : List ℕ) → str
 unfolding strip putTree
 no-variable ts c rest = rw (not-variable ts (c .0) rest)
 
-along-part : (item : Pair) (k : ℕ) (t : Tree) (rest ts : List ℕ) → along item (suc k) (putTree t rest) ts ≡ after (item (putTree t rest) ts) (λ left more. along item k more left)
+along-part : (item : Pair) (k : ℕ) (t : Tree) (rest ts : List ℕ) → along item (suc k) (putTree t rest) ts ≡ andThen (item (putTree t rest) ts) (λ left more. along item k more left)
 unfolding along putTree
 along-part item k (var n) rest ts = refl
 along-part item k (node us) rest ts = refl
@@ -130,7 +130,7 @@ fill-opens f zero bs = nothing
 fill-opens f (suc d) bs =
     onTest (Gives (λ _ _. Opened bs)) (eqb (length bs) (f .hole))
     (λ _. bind (bind (strip-gives (40 ∷ []) bs) (λ _ mid e. any-gives (record { inner = mid; opens = e }) (closing 0 mid))) (λ _ mid o. any-gives o (instead (f .new d) mid)))
-    (λ _. oneOf-meets {R = λ cs _ _. Opened cs} (branch (record { at = λ cs. any-gives (record { inner = 118 ∷ 32 ∷ cs; opens = refl }) (indexed (f .entry) cs) }) (branch (record { at = λ cs. any-gives (record { inner = cs; opens = refl }) (front (40 ∷ []) (inside (fillItem f d) cs)) }) none)) .at bs)
+    (λ _. oneOf-meets {R = λ cs _ _. Opened cs} (branch (record { at = λ cs. any-gives (record { inner = 118 ∷ 32 ∷ cs; opens = refl }) (indexed (f .entry) cs) }) (branch (record { at = λ cs. any-gives (record { inner = cs; opens = refl }) (prefixed (40 ∷ []) (inside (fillItem f d) cs)) }) none)) .at bs)
 
 -- Equal bytes of a variable and of an item.
 record Equal (x y : Parsed (List ℕ)) (other rest : List ℕ) : Type 0 where
@@ -139,17 +139,17 @@ record Equal (x y : Parsed (List ℕ)) (other rest : List ℕ) : Type 0 where
   second : y ≡ got bytes other
 
 both-agrees : (x y : Parsed (List ℕ)) → Gives (λ other rest. Equal x y other rest) (both x y)
-unfolding both whole matches
+unfolding both nothingLeft matches
 both-agrees bad y = nothing
 both-agrees (got w rest) bad = nothing
 both-agrees (got w rest) (got v other) = go (strip-gives v w)
   where
-    go : {z : Parsed (Unit {0})} → Gives (λ _ left. w ≡ v ++ left) z → Gives (λ o r. Equal (got w rest) (got v other) o r) (whole (after z (λ _ left. got left other)) rest)
+    go : {z : Parsed (Unit {0})} → Gives (λ _ left. w ≡ v ++ left) z → Gives (λ o r. Equal (got w rest) (got v other) o r) (nothingLeft (andThen z (λ _ left. got left other)) rest)
     go nothing = nothing
     go (gives {rest = []} e) = gives (record { bytes = w; first = refl; second = ap (λ b. got b other) (sym (e ∙ append-nil v)) })
     go (gives {rest = b ∷ bs} e) = nothing
 
-open-step : (item : Reader (List ℕ)) (k : ℕ) (bs : List ℕ) → Opened bs → insideUpTo item (suc k) bs ≡ after (item bs) (λ w rest. front w (insideUpTo item k rest))
+open-step : (item : Reader (List ℕ)) (k : ℕ) (bs : List ℕ) → Opened bs → insideUpTo item (suc k) bs ≡ andThen (item bs) (λ w rest. prefixed w (insideUpTo item k rest))
 unfolding insideUpTo
 open-step item k bs o = rw (o .opens)
 
@@ -159,7 +159,7 @@ not-here {b} {x} n e = T-not (eqb b x) n (rw (eq-eqb b x e) tt)
 module _ (f g : Filler) where
   module _ (d : ℕ) (agrees : (ps qs : List ℕ) → Gives (λ other rest. Agree f g d ps qs other rest) (sameItem f g d ps qs)) where
     along-agrees : (k m : ℕ) (ps qs : List ℕ) → length qs ≤ m → Gives (λ other rest. AgreeIn (fillItem f d) (fillItem g d) k m ps qs other rest) (along (sameItem f g d) k ps qs)
-    unfolding along front
+    unfolding along prefixed
     along-agrees zero m ps qs h = nothing
     along-agrees (suc k) m [] qs h = nothing
     along-agrees (suc k) zero (b ∷ ps) qs h =
@@ -183,8 +183,8 @@ module _ (f g : Filler) where
       Goal : Parsed (List ℕ) → Type 0
       Goal x = Gives (λ other rest. Agree f g (suc d) ps qs other rest) x
 
-      nested-agrees : strip variable ps ≡ bad → strip variable qs ≡ bad → (x y : Parsed (Unit {0})) → strip (40 ∷ []) ps ≡ x → strip (40 ∷ []) qs ≡ y → Goal (after x (λ _ cs. after y (λ _ ds. along (sameItem f g d) (length cs) cs ds)))
-      unfolding Goal inside front
+      nested-agrees : strip variable ps ≡ bad → strip variable qs ≡ bad → (x y : Parsed (Unit {0})) → strip (40 ∷ []) ps ≡ x → strip (40 ∷ []) qs ≡ y → Goal (andThen x (λ _ cs. andThen y (λ _ ds. along (sameItem f g d) (length cs) cs ds)))
+      unfolding Goal inside prefixed
       nested-agrees v w bad y e h = nothing
       nested-agrees v w (got u cs) bad e h = nothing
       nested-agrees v w (got u cs) (got u′ ds) e h =
@@ -225,25 +225,3 @@ module _ {f g : Filler} {σ τ : ℕ → Tree} {P Q : ℕ → Type 0} (F : Fills
 
 pub term-fills : (f : Filler) (σ : Substitution) (w : ℕ) → f .hole ≡ 0 → ((n : ℕ) → n < w → f .entry n ≡ putTerm (σ n) []) → Fills f (trees σ) (Below w)
 term-fills f σ w h e = record { bare = h; formed = λ n b. b .0; entry = λ n b. e n (b .1) ∙ put-term (σ n) [] }
-
-module _ (f g : Filler) (σ τ : Substitution) (v w d : ℕ) (F : Fills f (trees σ) (Below v)) (G : Fills g (trees τ) (Below w)) where
-  module _ (t u : Term) (ft : T (formedTerm d t)) (fu : T (formedTerm d u)) (wt : termWidth t ≤ v) (wu : termWidth u ≤ w) (r s : List ℕ) where
-    pub same-term : fill σ t ≡ fill τ u → sameItem f g d (putTerm t r) (putTerm u s) ≡ got s r
-    same-term e = rw (put-term t r, put-term u s) (same-tree F G (treeTerm t) (treeTerm u) d (clean-term t) (clean-term u) (within-term v t d ft wt) (within-term w u d fu wu) (tree-term σ t ∙ ap treeTerm e ∙ sym (tree-term τ u)) r s)
-
-    pub same-term-only : {other rest : List ℕ} → sameItem f g d (putTerm t r) (putTerm u s) ≡ got other rest → putTerm (fill σ t) [] ≡ putTerm (fill τ u) []
-    same-term-only h = rw (put-term (fill σ t) [], put-term (fill τ u) [], ← tree-term σ t, ← tree-term τ u) (same-only F G (treeTerm t) (treeTerm u) d (clean-term t) (clean-term u) (within-term v t d ft wt) (within-term w u d fu wu) r s (rw (put-term t r, put-term u s) at h))
-
-  module _ (ts us : Terms) (ft : T (formedTerms d ts)) (fu : T (formedTerms d us)) (wt : termsWidth ts ≤ v) (wu : termsWidth us ≤ w) (r s : List ℕ) where
-    pub same-arguments : fills σ ts ≡ fills τ us → sameItem f g (suc d) (putArguments ts r) (putArguments us s) ≡ got s r
-    same-arguments e = rw (put-arguments ts r, put-arguments us s) (same-tree F G (treeArguments ts) (treeArguments us) (suc d) (clean-arguments ts) (clean-arguments us) (within-arguments v d ts ft wt) (within-arguments w d us fu wu) (tree-arguments σ ts ∙ ap treeArguments e ∙ sym (tree-arguments τ us)) r s)
-
-    pub same-arguments-only : {other rest : List ℕ} → sameItem f g (suc d) (putArguments ts r) (putArguments us s) ≡ got other rest → putArguments (fills σ ts) [] ≡ putArguments (fills τ us) []
-    same-arguments-only h = rw (put-arguments (fills σ ts) [], put-arguments (fills τ us) [], ← tree-arguments σ ts, ← tree-arguments τ us) (same-only F G (treeArguments ts) (treeArguments us) (suc d) (clean-arguments ts) (clean-arguments us) (within-arguments v d ts ft wt) (within-arguments w d us fu wu) r s (rw (put-arguments ts r, put-arguments us s) at h))
-
-  module _ (x y : Atom) (fx : T (formedAtom d x)) (fy : T (formedAtom d y)) (wx : termsWidth (termsOf x) ≤ v) (wy : termsWidth (termsOf y) ≤ w) (r s : List ℕ) where
-    pub same-atom : fillAtom σ x ≡ fillAtom τ y → sameItem f g (suc (suc d)) (putAtom x r) (putAtom y s) ≡ got s r
-    same-atom e = rw (put-atom x r, put-atom y s) (same-tree F G (treeAtom x) (treeAtom y) (suc (suc d)) (clean-atom x) (clean-atom y) (within-atom v d x fx wx) (within-atom w d y fy wy) (tree-atom σ x ∙ ap treeAtom e ∙ sym (tree-atom τ y)) r s)
-
-    pub same-atom-only : {other rest : List ℕ} → sameItem f g (suc (suc d)) (putAtom x r) (putAtom y s) ≡ got other rest → putAtom (fillAtom σ x) [] ≡ putAtom (fillAtom τ y) []
-    same-atom-only h = rw (put-atom (fillAtom σ x) [], put-atom (fillAtom τ y) [], ← tree-atom σ x, ← tree-atom τ y) (same-only F G (treeAtom x) (treeAtom y) (suc (suc d)) (clean-atom x) (clean-atom y) (within-atom v d x fx wx) (within-atom w d y fy wy) r s (rw (put-atom x r, put-atom y s) at h))

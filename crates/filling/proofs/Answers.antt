@@ -2,18 +2,22 @@
 use Prim.Native.Nat.{ℕ, _+_, _-_, _≤_, _<_}
 use mathlib.Core.Path.{_≡_, refl, sym, _∙_, ap}
 use mathlib.Core.List.{List, [], _∷_}
+use mathlib.Core.Logic.{_⊎_, inl, inr}
+use borrow.Author.Tests.{le-leb, lt-leb}
 use native.Mathlib.Omega.{arith}
-use lib.ListN.{length, drop, length-drop, drop-of-length-le}
+use lib.ListN.{length, take, drop, length-drop, drop-of-length-le}
 use Rattle.scan.specs.declared.numbers.NumberAt.{NumberAt}
-use Rattle.text.specs.Read.{Parsed, bad, got, Reader, after, strip, readNumber}
+use Rattle.text.specs.Read.{Parsed, bad, got, Reader, andThen, strip, readNumber}
 use Rattle.text.specs.Places.{endOf, readOr}
+use Rattle.text.specs.Access.{skipItem}
 use Rattle.scan.specs.Numbers.{numberAt}
-use Rattle.text.proofs.Gives.{Gives, nothing, gives}
+use Rattle.text.proofs.Gives.{Gives, nothing, gives, given}
 use Rattle.text.proofs.Number.{number-sound}
 use Rattle.text.proofs.Plain.{number-plain}
-use Rattle.text.proofs.Positions.{End, Tail, missing, there, end-trans, end-drop, strip-tail, sound-tail}
+use Rattle.text.proofs.Positions.{End, Tail, missing, there, end-trans, end-drop, strip-tail, skip-tail, sound-tail}
 use Rattle.filling.specs.declared.compare.Ends.{Ends}
-use Rattle.filling.specs.Filled.{readIndex, indexed, matches, endsOf}
+use Rattle.filling.specs.Filled.{readIndex, indexed, itself, matches, endsOf, endsAt}
+use Rattle.filling.proofs.Walk.{le-or-lt, skip-shrinks}
 
 pub ends-at : (p t : List ℕ) (i j : ℕ) {whole : Parsed (List ℕ)} → i ≤ length p → j ≤ length t → whole ≡ got (drop j t) (drop i p) → record { at = i; pos = j } ≡ endsOf p t whole
 unfolding endsOf
@@ -58,4 +62,34 @@ module _ {entry : ℕ → List ℕ} {p : List ℕ} {at v end : ℕ} (t : List �
   pub entry-same : Indexed entry p at v end → end ≤ length p → endOf t (strip (entry v) (drop pos t)) ≤ length t → matches (indexed entry (drop at p)) (drop pos t) ≡ got (drop (endOf t (strip (entry v) (drop pos t))) t) (drop end p)
   unfolding matches
   entry-same (without e l) h n = absurd (omega arith)
-  entry-same (index e l) h n = rw e (ap (λ y. after y (λ _ left. got left (drop end p))) (there t pos (strip-tail (entry v)) n .1))
+  entry-same (index e l) h n = rw e (ap (λ y. andThen y (λ _ left. got left (drop end p))) (there t pos (strip-tail (entry v)) n .1))
+
+-- An item as it stands.
+module _ (p : List ℕ) (at : ℕ) {end : ℕ} (e : end ≡ endOf p (skipItem (drop at p))) where
+  pub item-open : length p < end → (ts : List ℕ) → matches (itself (drop at p)) ts ≡ bad
+  unfolding itself matches
+  item-open h ts = rw (missing p at skip-tail (rw (← e) h))
+
+  module _ (h : end ≤ length p) where
+    passed : skipItem (drop at p) ≡ got tt (drop end p)
+    passed = let t = there p at skip-tail (rw (← e) h) in rw e (t .1)
+
+    pub item-begins : at < end
+    item-begins = let l = given (skip-shrinks .shrinks (drop at p)) passed .less in omega (arith, length-drop at p, length-drop end p)
+
+    item-itself : itself (drop at p) ≡ got (take (end - at) (drop at p)) (drop end p)
+    unfolding itself
+    item-itself =
+        let l = item-begins in
+        let n : length (drop at p) - length (drop end p) ≡ end - at = omega (arith, length-drop at p, length-drop end p) in
+        rw (passed, n)
+
+    pub item-ends : (t : List ℕ) (pos : ℕ) {k : ℕ} → k ≡ endOf t (strip (take (end - at) (drop at p)) (drop pos t)) → endsAt p end t k ≡ endsOf p t (matches (itself (drop at p)) (drop pos t))
+    unfolding endsAt matches
+    item-ends t pos {k} f = go (le-or-lt k (length t))
+      where
+        go : (k ≤ length t) ⊎ (length t < k) → endsAt p end t k ≡ endsOf p t (matches (itself (drop at p)) (drop pos t))
+        go (inl l) =
+            let s = there t pos (strip-tail (take (end - at) (drop at p))) (rw (← f) l) .1 in
+            rw (le-leb end (length p) h, le-leb k (length t) l) (ends-at p t end k h l (rw (item-itself, s, f)))
+        go (inr l) = rw (le-leb end (length p) h, lt-leb k (length t) l, item-itself, missing t pos (strip-tail (take (end - at) (drop at p))) (rw (← f) l))

@@ -5,14 +5,14 @@ use mathlib.Core.Path.{_≡_, refl, sym, _∙_, ap, fun-ext}
 use mathlib.Core.List.{List, [], _∷_}
 use native.Mathlib.Omega.{arith}
 use lib.ListN.{length, drop, getD, length-drop, drop-of-length-le}
-use Rattle.text.specs.Read.{Parsed, bad, got, Reader, after, strip}
+use Rattle.text.specs.Read.{Parsed, bad, got, Reader, andThen, strip}
 use Rattle.text.specs.Places.{endOf}
 use Rattle.text.specs.Access.{skipItem, entryOf}
 use Rattle.text.proofs.Positions.{missing, there, strip-tail, skip-tail}
 use borrow.Author.Tests.{le-leb, lt-leb}
 use Rattle.filling.specs.declared.compare.Ends.{Ends}
 use Rattle.filling.specs.declared.compare.Walk.{Walk}
-use Rattle.filling.specs.Filled.{Filler, instead, indexed, front, inside, fillItem, plain, replacing, matches, endsOf, endsAt}
+use Rattle.filling.specs.Filled.{Filler, instead, indexed, prefixed, inside, fillItem, plain, replacing, matches, endsOf, endsAt}
 use Rattle.filling.proofs.Walk.{fill-zero, fill-empty, fill-hole, fill-variable, fill-bracket, fill-other, fill-shrinks, byte-here, byte-none, byte-other, Landed, missed, landed, land, Going, going-from, never-front, matching, le-or-lt, somewhere, lost as nowhere}
 use Rattle.filling.proofs.Answers.{ends-at, ends-bad}
 
@@ -57,7 +57,7 @@ unfolding instead matches
 instead-lost bad bs ts e = refl
 instead-lost (got w rest) bs ts e = go (strip w ts) e
   where
-    go : (z : Parsed (Unit {0})) → after z (λ _ left. got left rest) ≡ bad → after z (λ _ left. got left bs) ≡ bad
+    go : (z : Parsed (Unit {0})) → andThen z (λ _ left. got left rest) ≡ bad → andThen z (λ _ left. got left bs) ≡ bad
     go bad e = refl
     go (got u left) e = absurd (let z : _≡_ {A = ℕ} 0 1 = cc in omega arith)
 
@@ -66,7 +66,7 @@ unfolding instead matches
 instead-got bad bs ts e = cc
 instead-got (got w more) bs ts {left} {rest} e = go (strip w ts) e
   where
-    go : (z : Parsed (Unit {0})) → after z (λ _ l. got l more) ≡ got left rest → after z (λ _ l. got l bs) ≡ got left bs
+    go : (z : Parsed (Unit {0})) → andThen z (λ _ l. got l more) ≡ got left rest → andThen z (λ _ l. got l bs) ≡ got left bs
     go bad e = cc
     go (got u l) e = cc
 
@@ -78,7 +78,7 @@ module _ (x : Call) where
   no-byte h = lost _ (rw (drop-of-length-le (x .p) h) (fill-empty (filler x) (x .depth)))
 
   module _ (d : 0 < x .depth) where
-    in-hole : x .at ≡ x .hole → fillItem (filler x) (x .depth) (drop (x .at) (x .p)) ≡ after (skipItem (drop (x .at) (x .p))) (λ _. instead (fillItem (plain (x .line) (x .others)) (x .depth - 1) (drop (x .from) (x .q))))
+    in-hole : x .at ≡ x .hole → fillItem (filler x) (x .depth) (drop (x .at) (x .p)) ≡ andThen (skipItem (drop (x .at) (x .p))) (λ _. instead (fillItem (plain (x .line) (x .others)) (x .depth - 1) (drop (x .from) (x .q))))
     unfolding replacing
     in-hole e = fill-hole (filler x) (x .depth) _ d (length-drop (x .at) (x .p) ∙ rw e)
 
@@ -87,7 +87,7 @@ module _ (x : Call) where
 
     module _ (e : x .at ≡ x .hole) (k : endOf (x .p) (skipItem (drop (x .at) (x .p))) ≤ length (x .p)) {r : Ends} (l : Landed (matching (fillItem (plain (x .line) (x .others)) (x .depth - 1))) (x .q) (x .t) (x .from) (x .pos) r) where
       filled : fillItem (filler x) (x .depth) (drop (x .at) (x .p)) ≡ instead (fillItem (plain (x .line) (x .others)) (x .depth - 1) (drop (x .from) (x .q))) (drop (endOf (x .p) (skipItem (drop (x .at) (x .p)))) (x .p))
-      filled = in-hole e ∙ ap (λ y. after y (λ _. instead (fillItem (plain (x .line) (x .others)) (x .depth - 1) (drop (x .from) (x .q))))) (there (x .p) (x .at) skip-tail k .1)
+      filled = in-hole e ∙ ap (λ y. andThen y (λ _. instead (fillItem (plain (x .line) (x .others)) (x .depth - 1) (drop (x .from) (x .q))))) (there (x .p) (x .at) skip-tail k .1)
 
       hole-other : length (x .t) < r .pos → whole x ≡ bad
       hole-other o = go l
@@ -127,7 +127,7 @@ module _ (x : Call) where
 
       module _ (v : length (x .p) < endOf (x .p) (strip (40 ∷ 118 ∷ 32 ∷ []) (drop (x .at) (x .p)))) {i j : ℕ}
           (e : i ≡ endOf (x .p) (strip (40 ∷ []) (drop (x .at) (x .p)))) (f : j ≡ endOf (x .t) (strip (40 ∷ []) (drop (x .pos) (x .t)))) where
-        bracket : i ≤ length (x .p) → whole x ≡ matches (front (40 ∷ []) (inside (fillItem (filler x) (x .depth - 1)) (drop i (x .p)))) (drop (x .pos) (x .t))
+        bracket : i ≤ length (x .p) → whole x ≡ matches (prefixed (40 ∷ []) (inside (fillItem (filler x) (x .depth - 1)) (drop i (x .p)))) (drop (x .pos) (x .t))
         bracket l =
             let h = somewhere (x .p) (x .at) 40 [] (rw (← e) l) in
             ap (λ y. matches y (drop (x .pos) (x .t))) (fill-bracket (filler x) (drop (x .at) (x .p)) (apart h) (x .depth) d (missing (x .p) (x .at) (strip-tail (40 ∷ 118 ∷ 32 ∷ [])) v) (there (x .p) (x .at) (strip-tail (40 ∷ [])) (rw (← e) l) .1)) ∙ rw (← e)

@@ -16,12 +16,12 @@ use Rattle.logic.specs.Fill.{Substitution, fill, fills, fillResult, fillAtom, f
 use Rattle.text.specs.Words.{bytes}
 use Rattle.text.specs.Write.{word, putNumber, putTerm, putAtom, putLiteral}
 use Rattle.text.specs.Form.{formedNumber, formedTerm, formedAtom}
-use Rattle.text.specs.Read.{Parsed, bad, got, Reader, after, oneOf, strip, readNumber, digit}
+use Rattle.text.specs.Read.{Parsed, bad, got, Reader, andThen, oneOf, strip, readNumber, digit}
 use Rattle.text.proofs.Number.{number-complete}
 use Rattle.text.proofs.Plain.{number-plain, in-front, put-grows}
 use Rattle.text.proofs.Trees.{Tree, var, node, Trees, end, byte, part, putTree, putInside, opens, Clean, CleanIn, Within, WithinIn, numberBytes, texts, Below, treeTerm, treeTerms, treeArguments, treeResult, treeAtom, treeLiteral, put-term, put-atom, put-literal, clean-term, clean-atom, clean-literal, within-term, within-atom, within-literal}
 use Rattle.text.proofs.Nesting.{inner-tests}
-use Rattle.filling.specs.Filled.{Filler, front, insideUpTo, inside, readIndex, indexed, fillItem}
+use Rattle.filling.specs.Filled.{Filler, prefixed, insideUpTo, inside, readIndex, indexed, fillItem}
 
 unfoldable mutual
   pub fillTree : (ℕ → Tree) → Tree → Tree
@@ -65,7 +65,7 @@ not-variable (byte b ts) o rest = rw (other b o)
 not-variable (part (var n) ts) o rest = refl
 not-variable (part (node us) ts) o rest = refl
 
-pub inside-part : (item : Reader (List ℕ)) (k : ℕ) (t : Tree) (rest : List ℕ) → insideUpTo item (suc k) (putTree t rest) ≡ after (item (putTree t rest)) (λ w left. front w (insideUpTo item k left))
+pub inside-part : (item : Reader (List ℕ)) (k : ℕ) (t : Tree) (rest : List ℕ) → insideUpTo item (suc k) (putTree t rest) ≡ andThen (item (putTree t rest)) (λ w left. prefixed w (insideUpTo item k left))
 unfolding insideUpTo putTree
 inside-part item k (var n) rest = refl
 inside-part item k (node ts) rest = refl
@@ -85,7 +85,7 @@ clear-here {hole} {low} {high} (before-it h) l = ne-eqb high hole (omega arith)
 
 module _ (f : Filler) (σ : ℕ → Tree) (P : ℕ → Type 0) (formed : (n : ℕ) → P n → T (formedNumber n)) (entry : (n : ℕ) → P n → f .entry n ≡ putTree (σ n) []) where
   mutual
-    unfolding fillItem fillTree putTree inside insideUpTo readIndex indexed oneOf strip digit front
+    unfolding fillItem fillTree putTree inside insideUpTo readIndex indexed oneOf strip digit prefixed
 
     pub fill-tree : (t : Tree) (d : ℕ) → Clean t → Within P t d → (rest : List ℕ) → Clear (f .hole) (length rest) (length (putTree t rest)) → fillItem f d (putTree t rest) ≡ got (putTree (fillTree σ t) []) rest
     fill-tree (var n) zero c w rest o = absurd w

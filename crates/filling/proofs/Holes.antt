@@ -9,13 +9,13 @@ use lib.ListN.{length}
 use borrow.Author.Tests.{ne-eqb, eq-eqb, eqb-false}
 use Rattle.text.specs.Write.{Writer, word, putNumber}
 use Rattle.text.specs.Form.{formedNumber}
-use Rattle.text.specs.Read.{Parsed, bad, got, Reader, after, strip}
+use Rattle.text.specs.Read.{Parsed, bad, got, Reader, andThen, strip}
 use Rattle.text.specs.Access.{skipItem, stood, beginsTerm, seek, toOccurrence}
 use Rattle.text.proofs.Tests.{onTest}
 use Rattle.text.proofs.Plain.{number-plain, in-front}
 use Rattle.text.proofs.Trees.{Tree, var, node, Trees, end, byte, part, putTree, putInside, Inner, inner, Clean, CleanIn, Within, WithinIn, within-more, within-in-more, numberBytes, number-inner}
 use Rattle.text.proofs.Nesting.{inner-tests, skip-tree}
-use Rattle.filling.specs.Filled.{Filler, front, insideUpTo, inside, instead, fillItem}
+use Rattle.filling.specs.Filled.{Filler, prefixed, insideUpTo, inside, instead, fillItem}
 use Rattle.filling.proofs.Filling.{fillTree, fillTrees, tree-front, tree-longer, inside-grows, inside-part, not-variable, Clear, after-it, before-it, narrow, fill-tree, fill-inside}
 use Rattle.filling.proofs.Walk.{fill-hole, fill-bracket, inside-on}
 use Rattle.filling.proofs.Alike.{no-variable}
@@ -205,7 +205,7 @@ module _ (f : Filler) (σ : ℕ → Tree) (P : ℕ → Type 0) (formed : (n : �
 
   -- A bracket with the hole inside.
   pub node-held : (ts : Trees) → Clean (node ts) → (d : ℕ) (x : Found Trees) → GoodIn f (stack D d) ts x → Good f (suc (stack D d)) (node ts) (mapFound node (λ r. 41 ∷ r) x)
-  unfolding mapFound putTree strip inside front
+  unfolding mapFound putTree strip inside prefixed
   node-held ts c d (past j) g = tt
   node-held ts c d (found s w x) g = λ rest.
       let h = g (41 ∷ rest) in
@@ -217,7 +217,7 @@ module _ (f : Filler) (σ : ℕ → Tree) (P : ℕ → Type 0) (formed : (n : �
       }
 
   pub byte-held : (b : ℕ) (ts : Trees) → T (inner b) → (d : ℕ) (x : Found Trees) → GoodIn f d ts x → GoodIn f d (byte b ts) (mapFound (byte b) (λ r. r) x)
-  unfolding mapFound putInside front
+  unfolding mapFound putInside prefixed
   byte-held b ts h d (past j) g = tt
   byte-held b ts h d (found s w x) g = λ rest. record { longer = g rest .longer; inside = omega (arith, g rest .inside); filled = go rest }
     where
@@ -230,7 +230,7 @@ module _ (f : Filler) (σ : ℕ → Tree) (P : ℕ → Type 0) (formed : (n : �
   module _ (t : Tree) (ts : Trees) (ct : Clean t) (cs : CleanIn ts) (d : ℕ) (wt : Within P t (stack D d)) (ws : WithinIn P ts (stack D d)) where
     -- found behind the first item
     pub later-held : (y : Found Trees) → GoodIn f (stack D d) ts y → GoodIn f (stack D d) (part t ts) (mapFound (part (fillTree σ t)) (λ r. r) y)
-    unfolding mapFound putInside front
+    unfolding mapFound putInside prefixed
     later-held (past j) g = tt
     later-held (found s w x) g = λ rest. record { longer = g rest .longer; inside = omega (arith, g rest .inside, tree-longer t (putInside ts rest)); filled = go rest }
       where
@@ -241,7 +241,7 @@ module _ (f : Filler) (σ : ℕ → Tree) (P : ℕ → Type 0) (formed : (n : �
             ∙ rw (fill-tree f σ P formed entry t (stack D d) ct wt (putInside ts rest) (after-it (omega (arith, g rest .inside))), g rest .filled m more e (omega (arith, tree-longer t (putInside ts rest))) o, tree-front (fillTree σ t) (putInside x (41 ∷ [])))
 
     pub part-held : (x : Found Tree) → Good f (stack D d) t x → ((j : ℕ) → GoodIn f (stack D d) ts (findTrees σ u ts j)) → GoodIn f (stack D d) (part t ts) (turn x (fillTree σ t) (findTrees σ u ts) (fillTrees σ ts) (putInside ts) part)
-    unfolding turn putInside front
+    unfolding turn putInside prefixed
     part-held (past j) g h = later-held (findTrees σ u ts j) (h j)
     part-held (found s w x) g h = λ rest. record { longer = omega (arith, inside-grows ts rest, g (putInside ts rest) .longer); inside = g (putInside ts rest) .inside; filled = go rest }
       where

@@ -3,6 +3,8 @@ pub mod Walk
 pub mod Answers
 pub mod Expected
 pub mod Sameness
+pub mod Grounds
+pub mod Inside
 pub mod Claiming
 pub mod Claimed
 pub mod Alike

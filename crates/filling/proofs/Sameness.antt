@@ -6,14 +6,14 @@ use mathlib.Core.List.{List, [], _∷_}
 use native.Mathlib.Omega.{arith}
 use lib.Dec.{eqb}
 use lib.ListN.{length, drop, getD, length-drop, drop-of-length-le}
-use Rattle.text.specs.Read.{Parsed, bad, got, Reader, after, orElse, strip}
+use Rattle.text.specs.Read.{Parsed, bad, got, Reader, andThen, orElse, strip}
 use Rattle.text.specs.Places.{endOf}
 use Rattle.text.specs.Access.{entryOf}
 use Rattle.text.proofs.Tests.{onTest}
 use Rattle.text.proofs.Gives.{Gives, nothing, gives, weaken, bind}
 use Rattle.text.proofs.Positions.{missing, there, End, Tail, end-refl, end-trans, end-cons, strip-tail}
 use Rattle.filling.specs.declared.compare.Ends.{Ends}
-use Rattle.filling.specs.Filled.{Filler, indexed, fillItem, plain, matches, endsOf, along, whole, both, turned, sameItem}
+use Rattle.filling.specs.Filled.{Filler, indexed, fillItem, plain, matches, endsOf, along, nothingLeft, both, turned, sameItem}
 use Rattle.filling.proofs.Walk.{Less, Shrinks, less-cons, less-end, index-tail, fill-shrinks, byte-here, Pair, Both, Shortens, matching, Landed, missed, landed, Going, le-or-lt, lost}
 use Rattle.filling.proofs.Answers.{Indexed, without, index}
 
@@ -34,14 +34,14 @@ module _ (f g : Filler) where
     same-second zero h e = absurd (omega arith)
     same-second (suc d) h e = rw (b, e)
 
-    pub same-nested : (d : ℕ) → 0 < d → strip (40 ∷ 118 ∷ 32 ∷ []) qs ≡ bad → sameItem f g d ps qs ≡ after (strip (40 ∷ []) ps) (λ _ cs. after (strip (40 ∷ []) qs) (λ _ ds. along (sameItem f g (d - 1)) (length cs) cs ds))
+    pub same-nested : (d : ℕ) → 0 < d → strip (40 ∷ 118 ∷ 32 ∷ []) qs ≡ bad → sameItem f g d ps qs ≡ andThen (strip (40 ∷ []) ps) (λ _ cs. andThen (strip (40 ∷ []) qs) (λ _ ds. along (sameItem f g (d - 1)) (length cs) cs ds))
     unfolding sameItem
     same-nested zero h e = absurd (omega arith)
     same-nested (suc d) h e = let k : suc d - 1 ≡ d = omega arith in rw (b, e, k)
 
 -- Where two items end.
-whole-gives : {R S : List ℕ → Type 0} {y : Parsed (List ℕ)} (rest : List ℕ) → R rest → Gives (λ _ other. S other) y → Gives (λ other more. R more × S other) (whole y rest)
-unfolding whole
+whole-gives : {R S : List ℕ → Type 0} {y : Parsed (List ℕ)} (rest : List ℕ) → R rest → Gives (λ _ other. S other) y → Gives (λ other more. R more × S other) (nothingLeft y rest)
+unfolding nothingLeft
 whole-gives rest r nothing = nothing
 whole-gives rest r (gives {a = []} s) = gives (r, s)
 whole-gives rest r (gives {a = b ∷ bs} s) = nothing
@@ -100,17 +100,17 @@ same-shortens f g (suc d) =
 
 -- A variable's entry against a filled item.
 module _ (item : Reader (List ℕ)) (q w : List ℕ) (pos : ℕ) {e : Ends} (rest : List ℕ) where
-  pub whole-other : Landed (matching item) q w pos 0 e → (e .pos ≡ length w → ⊥) → whole (matches (item (drop pos q)) w) rest ≡ bad
-  unfolding whole
+  pub whole-other : Landed (matching item) q w pos 0 e → (e .pos ≡ length w → ⊥) → nothingLeft (matches (item (drop pos q)) w) rest ≡ bad
+  unfolding nothingLeft
   whole-other (missed m o k) n = rw m
   whole-other (landed a o h k) n = rw a (left (drop (e .pos) w) (length-drop (e .pos) w))
     where
-      left : (ds : List ℕ) → length ds ≡ length w - e .pos → whole (got ds (drop (e .at) q)) rest ≡ bad
+      left : (ds : List ℕ) → length ds ≡ length w - e .pos → nothingLeft (got ds (drop (e .at) q)) rest ≡ bad
       left [] l = absurd (n (omega arith))
       left (d ∷ ds) l = refl
 
-  pub whole-same : Landed (matching item) q w pos 0 e → e .pos ≡ length w → (e .at ≤ length q) × (whole (matches (item (drop pos q)) w) rest ≡ got (drop (e .at) q) rest)
-  unfolding whole
+  pub whole-same : Landed (matching item) q w pos 0 e → e .pos ≡ length w → (e .at ≤ length q) × (nothingLeft (matches (item (drop pos q)) w) rest ≡ got (drop (e .at) q) rest)
+  unfolding nothingLeft
   whole-same (missed m o k) n = absurd (omega arith)
   whole-same (landed a o h k) n = (h, rw (a, drop-of-length-le w {i = e .pos} (omega arith)))
 
@@ -120,7 +120,7 @@ module _ {entry : ℕ → List ℕ} {p : List ℕ} {at v end : ℕ} (y : Parsed 
   both-lost (without e l) h = rw e
   both-lost (index e l) h = absurd (omega arith)
 
-  pub both-found : Indexed entry p at v end → end ≤ length p → both (indexed entry (drop at p)) y ≡ whole (matches y (entry v)) (drop end p)
+  pub both-found : Indexed entry p at v end → end ≤ length p → both (indexed entry (drop at p)) y ≡ nothingLeft (matches y (entry v)) (drop end p)
   unfolding both
   both-found (without e l) h = absurd (omega arith)
   both-found (index e l) h = rw e
@@ -167,14 +167,14 @@ module _ (x : Call) (d : 0 < x .depth) where
     at-second e l = same-second _ _ _ _ (missing (x .p) (x .at) (strip-tail variable) v) (x .depth) d (there (x .q) (x .pos) (strip-tail variable) (rw (← e) l) .1) ∙ rw e
 
     module _ (w : length (x .q) < endOf (x .q) (strip variable (drop (x .pos) (x .q)))) where
-      nested : all x ≡ after (strip (40 ∷ []) (drop (x .at) (x .p))) (λ _ cs. after (strip (40 ∷ []) (drop (x .pos) (x .q))) (λ _ ds. along (item x (x .depth - 1)) (length cs) cs ds))
+      nested : all x ≡ andThen (strip (40 ∷ []) (drop (x .at) (x .p))) (λ _ cs. andThen (strip (40 ∷ []) (drop (x .pos) (x .q))) (λ _ ds. along (item x (x .depth - 1)) (length cs) cs ds))
       nested = same-nested _ _ _ _ (missing (x .p) (x .at) (strip-tail variable) v) (x .depth) d (missing (x .q) (x .pos) (strip-tail variable) w)
 
       no-first : length (x .p) < endOf (x .p) (strip (40 ∷ []) (drop (x .at) (x .p))) → all x ≡ bad
       no-first h = nested ∙ rw (missing (x .p) (x .at) (strip-tail (40 ∷ [])) h)
 
       module _ {i j : ℕ} (e : i ≡ endOf (x .p) (strip (40 ∷ []) (drop (x .at) (x .p)))) (f : j ≡ endOf (x .q) (strip (40 ∷ []) (drop (x .pos) (x .q)))) where
-        opened : i ≤ length (x .p) → all x ≡ after (strip (40 ∷ []) (drop (x .pos) (x .q))) (λ _ ds. along (item x (x .depth - 1)) (length (drop i (x .p))) (drop i (x .p)) ds)
+        opened : i ≤ length (x .p) → all x ≡ andThen (strip (40 ∷ []) (drop (x .pos) (x .q))) (λ _ ds. along (item x (x .depth - 1)) (length (drop i (x .p))) (drop i (x .p)) ds)
         opened l = nested ∙ rw (there (x .p) (x .at) (strip-tail (40 ∷ [])) (rw (← e) l) .1, ← e)
 
         -- No bracket in the second, and one there.

@@ -9,7 +9,7 @@ use native.Mathlib.Omega.{arith}
 use lib.Dec.{T, eqb, leb}
 use lib.ListN.{length, drop, getD, length-drop, drop-of-length-le}
 use borrow.Author.Tests.{eq-eqb, ne-eqb, leb-true, leb-false}
-use Rattle.text.specs.Read.{Parsed, bad, got, Reader, after, _>>=_, _>>_, oneOf, strip, readNumber}
+use Rattle.text.specs.Read.{Parsed, bad, got, Reader, andThen, _>>=_, _>>_, oneOf, strip, readNumber}
 use Rattle.text.specs.Places.{endOf}
 use Rattle.text.specs.Access.{skipItem}
 use Rattle.text.proofs.Tests.{onTest}
@@ -19,7 +19,7 @@ use Rattle.text.proofs.Plain.{number-plain}
 use Rattle.text.proofs.Places.{at-byte}
 use Rattle.text.proofs.Positions.{End, Tail, end-refl, end-trans, end-cons, end-drop, strip-tail, sound-tail, and-tail, skip-tail, closing-tail, there, missing}
 use Rattle.filling.specs.declared.compare.Ends.{Ends}
-use Rattle.filling.specs.Filled.{Filler, front, insideUpTo, inside, readIndex, indexed, instead, fillItem, matches, endsOf, along}
+use Rattle.filling.specs.Filled.{Filler, prefixed, insideUpTo, inside, readIndex, indexed, instead, fillItem, matches, endsOf, along}
 
 -- The steps of filling.
 module _ (f : Filler) where
@@ -32,7 +32,7 @@ module _ (f : Filler) where
   fill-empty zero = refl
   fill-empty (suc d) = onTest (λ x. x ≡ bad) (eqb 0 (f .hole)) (λ _. refl) (λ _. refl)
 
-  pub fill-hole : (d : ℕ) (bs : List ℕ) → 0 < d → length bs ≡ f .hole → fillItem f d bs ≡ after (skipItem bs) (λ _. instead (f .new (d - 1)))
+  pub fill-hole : (d : ℕ) (bs : List ℕ) → 0 < d → length bs ≡ f .hole → fillItem f d bs ≡ andThen (skipItem bs) (λ _. instead (f .new (d - 1)))
   unfolding fillItem
   fill-hole zero bs h e = absurd (omega arith)
   fill-hole (suc d) bs h e = let k : suc d - 1 ≡ d = omega arith in rw (eq-eqb _ _ e, k)
@@ -43,7 +43,7 @@ module _ (f : Filler) where
     fill-variable zero h e = absurd (omega arith)
     fill-variable (suc d) h e = rw (ne-eqb _ _ apart, e)
 
-    pub fill-bracket : (d : ℕ) {rest : List ℕ} → 0 < d → strip (40 ∷ 118 ∷ 32 ∷ []) bs ≡ bad → strip (40 ∷ []) bs ≡ got tt rest → fillItem f d bs ≡ front (40 ∷ []) (inside (fillItem f (d - 1)) rest)
+    pub fill-bracket : (d : ℕ) {rest : List ℕ} → 0 < d → strip (40 ∷ 118 ∷ 32 ∷ []) bs ≡ bad → strip (40 ∷ []) bs ≡ got tt rest → fillItem f d bs ≡ prefixed (40 ∷ []) (inside (fillItem f (d - 1)) rest)
     unfolding fillItem oneOf
     fill-bracket zero h e g = absurd (omega arith)
     fill-bracket (suc d) h e g = let k : suc d - 1 ≡ d = omega arith in rw (ne-eqb _ _ apart, e, g, k)
@@ -100,10 +100,10 @@ less-end l e = record { tail = end-trans (l .tail) e; less = omega (arith, l .le
 pub shrinks-tail : {A : Type 0} {read : Reader A} → Shrinks read → Tail read
 shrinks-tail s = record { tail = λ bs. weaken (s .shrinks bs) (λ _ rest l. l .tail) }
 
-first-shrinks : {B : Type 0} (b : ℕ) {next : Reader B} → Tail next → (bs : List ℕ) → Gives (λ _ rest. Less bs rest) (after (strip (b ∷ []) bs) (λ _. next))
+first-shrinks : {B : Type 0} (b : ℕ) {next : Reader B} → Tail next → (bs : List ℕ) → Gives (λ _ rest. Less bs rest) (andThen (strip (b ∷ []) bs) (λ _. next))
 unfolding strip
 first-shrinks b t [] = nothing
-first-shrinks b {next} t (x ∷ bs) = onTest {A = Parsed (Unit {0})} (λ p. Gives (λ _ rest. Less (x ∷ bs) rest) (after p (λ _. next))) (eqb b x) (λ _. weaken (t .tail bs) (λ _ rest e. less-cons x e)) (λ _. nothing)
+first-shrinks b {next} t (x ∷ bs) = onTest {A = Parsed (Unit {0})} (λ p. Gives (λ _ rest. Less (x ∷ bs) rest) (andThen p (λ _. next))) (eqb b x) (λ _. weaken (t .tail bs) (λ _ rest e. less-cons x e)) (λ _. nothing)
 
 pub skip-shrinks : Shrinks skipItem
 unfolding skipItem
@@ -113,8 +113,8 @@ pub index-tail : (entry : ℕ → List ℕ) → Tail (indexed entry)
 unfolding indexed readIndex
 index-tail entry = record { tail = λ bs. bind (bind (sound-tail number-sound number-plain .tail bs) (λ n mid p. bind (strip-tail (41 ∷ []) .tail mid) (λ _ rest q. gives (end-trans p q)))) (λ n rest e. gives e) }
 
-front-gives : {Q : List ℕ → Type 0} {p : Parsed (List ℕ)} (w : List ℕ) → Gives (λ _ rest. Q rest) p → Gives (λ _ rest. Q rest) (front w p)
-unfolding front
+front-gives : {Q : List ℕ → Type 0} {p : Parsed (List ℕ)} (w : List ℕ) → Gives (λ _ rest. Q rest) p → Gives (λ _ rest. Q rest) (prefixed w p)
+unfolding prefixed
 front-gives w nothing = nothing
 front-gives w (gives q) = gives q
 
@@ -153,26 +153,26 @@ fill-shrinks f zero = record { shrinks = λ bs. nothing }
 fill-shrinks f (suc d) = record { shrinks = fill-next f d (shrinks-tail (fill-shrinks f d)) }
 
 -- What matches: first what stands in front, then the rest.
-pub strip-append : (v w bs : List ℕ) → strip (v ++ w) bs ≡ after (strip v bs) (λ _. strip w)
+pub strip-append : (v w bs : List ℕ) → strip (v ++ w) bs ≡ andThen (strip v bs) (λ _. strip w)
 unfolding strip
 strip-append [] w bs = refl
 strip-append (b ∷ v) w [] = refl
-strip-append (b ∷ v) w (x ∷ bs) = elim (eqb b x) as (λ y. cond y (strip (v ++ w) bs) bad ≡ after (cond y (strip v bs) bad) (λ _. strip w)) [ true ↦ strip-append v w bs | false ↦ refl ]
+strip-append (b ∷ v) w (x ∷ bs) = elim (eqb b x) as (λ y. cond y (strip (v ++ w) bs) bad ≡ andThen (cond y (strip v bs) bad) (λ _. strip w)) [ true ↦ strip-append v w bs | false ↦ refl ]
 
-pub matches-front : (w : List ℕ) (p : Parsed (List ℕ)) (ts : List ℕ) → matches (front w p) ts ≡ after (strip w ts) (λ _. matches p)
-unfolding matches front
+pub matches-front : (w : List ℕ) (p : Parsed (List ℕ)) (ts : List ℕ) → matches (prefixed w p) ts ≡ andThen (strip w ts) (λ _. matches p)
+unfolding matches prefixed
 matches-front w bad ts = go (strip w ts)
   where
-    go : (q : Parsed (Unit {0})) → _≡_ {A = Parsed (List ℕ)} bad (after q (λ _ _. bad))
+    go : (q : Parsed (Unit {0})) → _≡_ {A = Parsed (List ℕ)} bad (andThen q (λ _ _. bad))
     go bad = refl
     go (got u left) = refl
 matches-front w (got ws rest) ts = rw (strip-append w ws ts) (go (strip w ts))
   where
-    go : (q : Parsed (Unit {0})) → after (after q (λ _. strip ws)) (λ _ left. got left rest) ≡ after q (λ _ left. after (strip ws left) (λ _ more. got more rest))
+    go : (q : Parsed (Unit {0})) → andThen (andThen q (λ _. strip ws)) (λ _ left. got left rest) ≡ andThen q (λ _ left. andThen (strip ws left) (λ _ more. got more rest))
     go bad = refl
     go (got u left) = refl
 
-pub never-front : (w : List ℕ) (p : Parsed (List ℕ)) (ts : List ℕ) → strip w ts ≡ bad → matches (front w p) ts ≡ bad
+pub never-front : (w : List ℕ) (p : Parsed (List ℕ)) (ts : List ℕ) → strip w ts ≡ bad → matches (prefixed w p) ts ≡ bad
 never-front w p ts b = matches-front w p ts ∙ rw b
 
 -- Two texts read along, and both get shorter.
@@ -220,7 +220,7 @@ beyond (landed a n o k) h = n
 
 -- The steps of an inside.
 module _ (item : Reader (List ℕ)) (k b : ℕ) (bs : List ℕ) where
-  pub inside-open : b ≡ 40 → insideUpTo item (suc k) (b ∷ bs) ≡ after (item (b ∷ bs)) (λ w rest. front w (insideUpTo item k rest))
+  pub inside-open : b ≡ 40 → insideUpTo item (suc k) (b ∷ bs) ≡ andThen (item (b ∷ bs)) (λ w rest. prefixed w (insideUpTo item k rest))
   unfolding insideUpTo
   inside-open e = rw e
 
@@ -228,21 +228,21 @@ module _ (item : Reader (List ℕ)) (k b : ℕ) (bs : List ℕ) where
   unfolding insideUpTo
   inside-close e = rw e
 
-  pub inside-on : (b ≡ 40 → ⊥) → (b ≡ 41 → ⊥) → insideUpTo item (suc k) (b ∷ bs) ≡ front (b ∷ []) (insideUpTo item k bs)
+  pub inside-on : (b ≡ 40 → ⊥) → (b ≡ 41 → ⊥) → insideUpTo item (suc k) (b ∷ bs) ≡ prefixed (b ∷ []) (insideUpTo item k bs)
   unfolding insideUpTo
   inside-on o c = rw (ne-eqb b 41 c, ne-eqb b 40 o)
 
 -- The steps of two insides.
 module _ (item : Pair) (k b : ℕ) (ps ts : List ℕ) where
-  along-open : b ≡ 40 → along item (suc k) (b ∷ ps) ts ≡ after (item (b ∷ ps) ts) (λ left rest. along item k rest left)
+  along-open : b ≡ 40 → along item (suc k) (b ∷ ps) ts ≡ andThen (item (b ∷ ps) ts) (λ left rest. along item k rest left)
   unfolding along
   along-open e = rw e
 
-  along-close : b ≡ 41 → along item (suc k) (b ∷ ps) ts ≡ after (strip (41 ∷ []) ts) (λ _ left. got left ps)
+  along-close : b ≡ 41 → along item (suc k) (b ∷ ps) ts ≡ andThen (strip (41 ∷ []) ts) (λ _ left. got left ps)
   unfolding along
   along-close e = rw e
 
-  along-on : (b ≡ 40 → ⊥) → (b ≡ 41 → ⊥) → along item (suc k) (b ∷ ps) ts ≡ after (strip (b ∷ []) ts) (λ _ left. along item k ps left)
+  along-on : (b ≡ 40 → ⊥) → (b ≡ 41 → ⊥) → along item (suc k) (b ∷ ps) ts ≡ andThen (strip (b ∷ []) ts) (λ _ left. along item k ps left)
   unfolding along
   along-on o c = rw (ne-eqb b 41 c, ne-eqb b 40 o)
 
@@ -252,16 +252,16 @@ matches-cond true v w ts = refl
 matches-cond false v w ts = refl
 
 module _ (item : Reader (List ℕ)) (k : ℕ) (onward : (ps ts : List ℕ) → matches (insideUpTo item k ps) ts ≡ along (matching item) k ps ts) where
-  along-on-both : (y : Parsed (Unit {0})) (ps : List ℕ) → after y (λ _. matches (insideUpTo item k ps)) ≡ after y (λ _ left. along (matching item) k ps left)
+  along-on-both : (y : Parsed (Unit {0})) (ps : List ℕ) → andThen y (λ _. matches (insideUpTo item k ps)) ≡ andThen y (λ _ left. along (matching item) k ps left)
   along-on-both bad ps = refl
   along-on-both (got u left) ps = onward ps left
 
-  along-part : (x : Parsed (List ℕ)) (ts : List ℕ) → matches (after x (λ w rest. front w (insideUpTo item k rest))) ts ≡ after (matches x ts) (λ left rest. along (matching item) k rest left)
+  along-part : (x : Parsed (List ℕ)) (ts : List ℕ) → matches (andThen x (λ w rest. prefixed w (insideUpTo item k rest))) ts ≡ andThen (matches x ts) (λ left rest. along (matching item) k rest left)
   unfolding matches
   along-part bad ts = refl
   along-part (got w rest) ts = matches-front w (insideUpTo item k rest) ts ∙ along-on-both (strip w ts) rest ∙ go (strip w ts)
     where
-      go : (y : Parsed (Unit {0})) → after y (λ _ left. along (matching item) k rest left) ≡ after (after y (λ _ left. got left rest)) (λ left more. along (matching item) k more left)
+      go : (y : Parsed (Unit {0})) → andThen y (λ _ left. along (matching item) k rest left) ≡ andThen (andThen y (λ _ left. got left rest)) (λ left more. along (matching item) k more left)
       go bad = refl
       go (got u left) = refl
 
@@ -301,7 +301,7 @@ module _ {item : Pair} (p t : List ℕ) {all : Parsed (List ℕ)} (i j : ℕ) (g
     stepped : all ≡ along item (suc (g .steps - 1)) (getD p i 0 ∷ drop (i + 1) p) (drop j t)
     stepped = g .left ∙ rw (at-byte p i h, more)
 
-    opened : getD p i 0 ≡ 40 → all ≡ after (item (drop i p) (drop j t)) (λ left rest. along item (g .steps - 1) rest left)
+    opened : getD p i 0 ≡ 40 → all ≡ andThen (item (drop i p) (drop j t)) (λ left rest. along item (g .steps - 1) rest left)
     opened b = stepped ∙ rw (along-open item (g .steps - 1) (getD p i 0) (drop (i + 1) p) (drop j t) b, ← at-byte p i h)
 
     -- A nested item, found or not.
@@ -331,6 +331,6 @@ module _ {item : Pair} (p t : List ℕ) {all : Parsed (List ℕ)} (i j : ℕ) (g
             go (no c) = rw (along-on item (g .steps - 1) (getD p i 0) (drop (i + 1) p) (drop j t) b c, e)
 
 -- A bracket of the filled item, and of the text.
-pub going-from : (item : Reader (List ℕ)) (p t : List ℕ) {all : Parsed (List ℕ)} (i pos j : ℕ) → all ≡ matches (front (40 ∷ []) (inside item (drop i p))) (drop pos t) → strip (40 ∷ []) (drop pos t) ≡ got tt (drop j t) → Going (matching item) p t all i j
+pub going-from : (item : Reader (List ℕ)) (p t : List ℕ) {all : Parsed (List ℕ)} (i pos j : ℕ) → all ≡ matches (prefixed (40 ∷ []) (inside item (drop i p))) (drop pos t) → strip (40 ∷ []) (drop pos t) ≡ got tt (drop j t) → Going (matching item) p t all i j
 unfolding inside
 going-from item p t i pos j e s = record { steps = length (drop i p); enough = omega (arith, length-drop i p); left = e ∙ matches-front (40 ∷ []) _ (drop pos t) ∙ rw s (inside-along item (length (drop i p)) (drop i p) (drop j t)) }

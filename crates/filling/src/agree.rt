@@ -1,6 +1,9 @@
-// Whether filled items agree: the item at x of clause a, filled by the first list of the line, and the item at y of clause b, filled by the second.
-use crate::compare::ITEM_DEPTH;
+// Whether filled items agree: the item at x of clause a, filled by the first list of the line, and the item at y of clause b, filled by the
+// second.
+// A list without places says that its clause has no variables. Terms nest at most `depth` deep.
+use crate::compare::item_depth;
 use crate::compare::same;
+use crate::compare::stands;
 use parts::shapes::next;
 use parts::shapes::result;
 use parts::shapes::within;
@@ -12,6 +15,7 @@ ghost use Rattle.filling.specs.Covers.{headAt, bareAt, coversAt};
 
 // The two items are the same.
 pub fn agree(
+    depth: u8,
     a: &[u8],
     x: usize,
     line: &[u8],
@@ -20,15 +24,27 @@ pub fn agree(
     y: usize,
     second: &[usize],
 ) -> bool
-    ensures { λ r. ⌜ r ≡ agreeAt (now (a .entry)) x (now (line .entry)) (now (first .entry)) (now (b .entry)) y (now (second .entry)) ⌝ }
+    ensures { λ r.
+        ⌜ r ≡ agreeAt depth (now (a .entry)) x (now (line .entry)) (now (first .entry)) (now (b .entry)) y
+        (now (second .entry)) ⌝ }
+    ensures { λ _. ⌜ (now (a .exit) ≡ now (a .entry)) × (now (line .exit) ≡ now (line .entry)) × (now (b .exit) ≡ now (b .entry)) ⌝ }
 {
-    let ends = same(a, x, line, first, b, y, second, ITEM_DEPTH);
+    let deep = item_depth(depth);
+    if second.len() == 0 {
+        let ends = stands(a, x, deep, line, first, b, y);
+        return within(b, ends.pos);
+    }
+    if first.len() == 0 {
+        let ends = stands(b, y, deep, line, second, a, x);
+        return within(a, ends.pos);
+    }
+    let ends = same(a, x, line, first, b, y, second, deep);
     within(a, ends.at)
 }
 
 // Arrow atoms whose objects are at x and y are alike but for their results.
 pub fn calls(
-    arrows: bool,
+    depth: u8,
     a: &[u8],
     x: usize,
     line: &[u8],
@@ -37,15 +53,16 @@ pub fn calls(
     y: usize,
     second: &[usize],
 ) -> bool
-    ensures { λ r. ⌜ r ≡ callsAt arrows (now (a .entry)) x (now (line .entry)) (now (first .entry)) (now (b .entry)) y (now (second .entry)) ⌝ }
+    ensures { λ r.
+        ⌜ r ≡ callsAt depth (now (a .entry)) x (now (line .entry)) (now (first .entry)) (now (b .entry)) y
+        (now (second .entry)) ⌝ }
+    ensures { λ _. ⌜ (now (a .exit) ≡ now (a .entry)) × (now (line .exit) ≡ now (line .entry)) × (now (b .exit) ≡ now (b .entry)) ⌝ }
 {
-    if arrows {
-        if agree(a, x, line, first, b, y, second) {
-            let u = next(a, x);
-            let v = next(b, y);
-            if agree(a, u, line, first, b, v, second) {
-                return agree(a, next(a, u), line, first, b, next(b, v), second);
-            }
+    if agree(depth, a, x, line, first, b, y, second) {
+        let u = next(a, x);
+        let v = next(b, y);
+        if agree(depth, a, u, line, first, b, v, second) {
+            return agree(depth, a, next(a, u), line, first, b, next(b, v), second);
         }
     }
     false
@@ -64,6 +81,7 @@ fn head(clause: &[u8], at: usize) -> &[u8]
 
 // The atom at x of a has none and is otherwise the one at y of b.
 fn bare(
+    depth: u8,
     a: &[u8],
     x: usize,
     line: &[u8],
@@ -72,20 +90,25 @@ fn bare(
     y: usize,
     second: &[usize],
 ) -> bool
-    ensures { λ r. ⌜ r ≡ bareAt (now (a .entry)) x (now (line .entry)) (now (first .entry)) (now (b .entry)) y (now (second .entry)) ⌝ }
+    ensures { λ r.
+        ⌜ r ≡ bareAt depth (now (a .entry)) x (now (line .entry)) (now (first .entry)) (now (b .entry)) y
+        (now (second .entry)) ⌝ }
 {
     let h = head(a, x);
     let o = word(a, x, h);
     let u = word(b, y, h);
     let none = within(a, word(a, result(a, o), b"none"));
     if none {
-        return calls(within(b, u), a, o, line, first, b, u, second);
+        if within(b, u) {
+            return calls(depth, a, o, line, first, b, u, second);
+        }
     }
     false
 }
 
 // The atom at y of b covers the one at x of a.
 pub fn covers(
+    depth: u8,
     a: &[u8],
     x: usize,
     line: &[u8],
@@ -94,10 +117,13 @@ pub fn covers(
     y: usize,
     second: &[usize],
 ) -> bool
-    ensures { λ r. ⌜ r ≡ coversAt (now (a .entry)) x (now (line .entry)) (now (first .entry)) (now (b .entry)) y (now (second .entry)) ⌝ }
+    ensures { λ r.
+        ⌜ r ≡ coversAt depth (now (a .entry)) x (now (line .entry)) (now (first .entry)) (now (b .entry)) y
+        (now (second .entry)) ⌝ }
+    ensures { λ _. ⌜ (now (a .exit) ≡ now (a .entry)) × (now (line .exit) ≡ now (line .entry)) × (now (b .exit) ≡ now (b .entry)) ⌝ }
 {
-    if agree(a, x, line, first, b, y, second) {
+    if agree(depth, a, x, line, first, b, y, second) {
         return true;
     }
-    bare(a, x, line, first, b, y, second)
+    bare(depth, a, x, line, first, b, y, second)
 }

@@ -2,6 +2,7 @@
 use parts::access::entry;
 use parts::access::skip;
 use scan::numbers::number;
+use scan::words::prefix;
 use scan::words::word;
 ghost use mathlib.Core.Path.{_≡_};
 ghost use Prim.Native.Nat.{_-_};
@@ -10,16 +11,22 @@ ghost use mathlib.Core.List.{[], _∷_};
 ghost use Rattle.text.specs.Places.{endOf};
 ghost use Rattle.text.specs.Read.{bad, strip};
 ghost use Rattle.text.specs.Access.{entryOf};
-ghost use Rattle.filling.specs.Filled.{fillItem, indexed, matches, endsOf, replacing, plain, both, sameItem, nestedIn, unbrokenAt, endsAt};
+ghost use Rattle.filling.specs.Filled.{itemDepth, holeDepth, itself, filledBy, fillItem, inside, indexed, matches};
+ghost use Rattle.filling.specs.Filled.{endsOf, replacing, plain, both, sameItem, nestedIn, unbrokenAt, endsAt};
 
-// Terms nest at most so deep.
-const TERM_DEPTH: usize = 16;
+// The brackets of a literal whose terms nest so deep: its own, its atom's, its arguments', and those of its terms.
+pub fn item_depth(depth: u8) -> usize
+    ensures { λ r. ⌜ r ≡ itemDepth depth ⌝ }
+{
+    3 + depth as usize
+}
 
-// The brackets of a literal: its own, its atom's, its arguments', and those of its terms.
-pub const ITEM_DEPTH: usize = 3 + TERM_DEPTH;
-
-// A literal with a term in place of one of its own.
-pub const HOLE_DEPTH: usize = ITEM_DEPTH + TERM_DEPTH;
+// Those of a literal with a term in place of one of its own.
+pub fn hole_depth(depth: u8) -> usize
+    ensures { λ r. ⌜ r ≡ holeDepth depth ⌝ }
+{
+    item_depth(depth) + depth as usize
+}
 
 // The places past what was compared, in the clause and in the other text; past their ends where they differ.
 pub struct Ends {
@@ -107,22 +114,25 @@ fn expect_entry(
     rest: &[u8],
     pos: usize,
 ) -> Ends
-    ensures { λ r. ⌜ r ≡ endsOf (now (clause .entry)) (now (rest .entry)) (matches (indexed (entryOf (now (line .entry)) (now (list .entry))) (drop at (now (clause .entry)))) (drop pos (now (rest .entry)))) ⌝ }
+    ensures { λ r.
+        ⌜ r ≡ endsOf (now (clause .entry)) (now (rest .entry))
+        (matches (indexed (entryOf (now (line .entry)) (now (list .entry))) (drop at (now (clause .entry))))
+        (drop pos (now (rest .entry)))) ⌝ }
 {
     let index = number(clause, at);
     let end = word(clause, index.end, b")");
     if end > clause.len() {
         return differ(clause, rest);
     }
-    let next = word(rest, pos, entry(line, list, index.value));
+    let next = prefix(rest, pos, entry(line, list, index.value));
     if next > rest.len() {
         return differ(clause, rest);
     }
     Ends { at: end, pos: next }
 }
 
-// The item at w.at of clause a, filled by the first list of the line, and with the item at w.from of clause b, filled by the second, in place
-// of the item at w.hole: it stands at w.pos of the rest.
+// The item at w.at of clause a, filled by the first list of the line, and with the item at w.from of clause b, filled by the second, in
+// place of the item at w.hole: it stands at w.pos of the rest.
 pub fn expect(
     a: &[u8],
     first: &[usize],
@@ -132,7 +142,10 @@ pub fn expect(
     rest: &[u8],
     w: Walk,
 ) -> Ends
-    ensures { λ r. ⌜ r ≡ endsOf (now (a .entry)) (now (rest .entry)) (matches (fillItem (replacing (now (line .entry)) (now (first .entry)) (length (now (a .entry)) - w .hole) (now (b .entry)) (w .from) (now (second .entry))) (w .depth) (drop (w .at) (now (a .entry)))) (drop (w .pos) (now (rest .entry)))) ⌝ }
+    ensures { λ r.
+        ⌜ r ≡ endsOf (now (a .entry)) (now (rest .entry)) (matches
+        (fillItem (replacing (now (line .entry)) (now (first .entry)) (length (now (a .entry)) - w .hole) (now (b .entry))
+        (w .from) (now (second .entry))) (w .depth) (drop (w .at) (now (a .entry)))) (drop (w .pos) (now (rest .entry)))) ⌝ }
 {
     let at = w.at;
     if w.depth == 0 {
@@ -173,8 +186,9 @@ pub fn expect(
     differ(a, rest)
 }
 
-// The item at `at` of the clause, filled by a list of the line, stands at `pos` of the rest.
-pub fn expect_filled(
+// The inside of an item of the clause from `at` on, filled by a list of the line, stands at `pos` of the rest; the items in it are at
+// most so many brackets deep. Variables are compared here, other items by a further call.
+fn expect_inside(
     clause: &[u8],
     at: usize,
     depth: usize,
@@ -183,10 +197,110 @@ pub fn expect_filled(
     rest: &[u8],
     pos: usize,
 ) -> Ends
-    ensures { λ r. ⌜ r ≡ endsOf (now (clause .entry)) (now (rest .entry)) (matches (fillItem (plain (now (line .entry)) (now (list .entry))) depth (drop at (now (clause .entry)))) (drop pos (now (rest .entry)))) ⌝ }
+    ensures { λ r.
+        ⌜ r ≡ endsOf (now (clause .entry)) (now (rest .entry))
+        (matches (inside (fillItem (plain (now (line .entry)) (now (list .entry))) depth) (drop at (now (clause .entry))))
+        (drop pos (now (rest .entry)))) ⌝ }
 {
-    let w = unbroken(clause, at, pos, depth);
-    expect(clause, list, &clause[0..0], list, line, rest, w)
+    let mut i = at;
+    let mut j = pos;
+    while i < clause.len() {
+        let byte = clause[i];
+        if byte == b'(' {
+            if depth == 0 {
+                return differ(clause, rest);
+            }
+            let index = word(clause, i, b"(v ");
+            if index <= clause.len() {
+                let found = expect_entry(clause, index, line, list, rest, j);
+                i = found.at;
+                j = found.pos;
+            } else {
+                let open = past(rest, j, b'(');
+                if open > rest.len() {
+                    return differ(clause, rest);
+                }
+                let found = expect_inside(clause, i + 1, depth - 1, line, list, rest, open);
+                i = found.at;
+                j = found.pos;
+            }
+        } else {
+            j = past(rest, j, byte);
+            if j > rest.len() {
+                return differ(clause, rest);
+            }
+            i += 1;
+            if byte == b')' {
+                return Ends { at: i, pos: j };
+            }
+        }
+    }
+    differ(clause, rest)
+}
+
+// The item at `at` of the clause, filled by a list of the line, stands at `pos` of the rest.
+fn expect_filled(
+    clause: &[u8],
+    at: usize,
+    depth: usize,
+    line: &[u8],
+    list: &[usize],
+    rest: &[u8],
+    pos: usize,
+) -> Ends
+    ensures { λ r.
+        ⌜ r ≡ endsOf (now (clause .entry)) (now (rest .entry))
+        (matches (fillItem (plain (now (line .entry)) (now (list .entry))) depth (drop at (now (clause .entry))))
+        (drop pos (now (rest .entry)))) ⌝ }
+{
+    if depth == 0 {
+        return differ(clause, rest);
+    }
+    let index = word(clause, at, b"(v ");
+    if index <= clause.len() {
+        return expect_entry(clause, index, line, list, rest, pos);
+    }
+    let i = word(clause, at, b"(");
+    let j = word(rest, pos, b"(");
+    if j > rest.len() {
+        return differ(clause, rest);
+    }
+    expect_inside(clause, i, depth - 1, line, list, rest, j)
+}
+
+// The item at `at` of the clause, as it is, stands at `pos` of the rest.
+fn expect_ground(clause: &[u8], at: usize, rest: &[u8], pos: usize) -> Ends
+    ensures { λ r.
+        ⌜ r ≡ endsOf (now (clause .entry)) (now (rest .entry))
+        (matches (itself (drop at (now (clause .entry)))) (drop pos (now (rest .entry)))) ⌝ }
+{
+    let end = skip(clause, at);
+    if end > clause.len() {
+        return differ(clause, rest);
+    }
+    reach(clause, end, rest, prefix(rest, pos, &clause[at..end]))
+}
+
+// The item at `at` of the clause, filled by a list of the line, stands at `pos` of the rest. Where the list has no places the clause has
+// no variables, and is its own filled form.
+pub fn stands(
+    clause: &[u8],
+    at: usize,
+    depth: usize,
+    line: &[u8],
+    list: &[usize],
+    rest: &[u8],
+    pos: usize,
+) -> Ends
+    ensures { λ r.
+        ⌜ r ≡ endsOf (now (clause .entry)) (now (rest .entry))
+        (matches (filledBy (now (line .entry)) (now (list .entry)) depth (drop at (now (clause .entry))))
+        (drop pos (now (rest .entry)))) ⌝ }
+{
+    if list.len() == 0 {
+        return expect_ground(clause, at, rest, pos);
+    }
+    expect_filled(clause, at, depth, line, list, rest, pos)
 }
 
 // A variable of clause a, from its number on: its entry is the item at y of clause b, filled by the second list.
@@ -200,7 +314,10 @@ fn same_entry(
     second: &[usize],
     depth: usize,
 ) -> Ends
-    ensures { λ r. ⌜ r ≡ endsOf (now (a .entry)) (now (b .entry)) (both (indexed (entryOf (now (line .entry)) (now (first .entry))) (drop x (now (a .entry)))) (fillItem (plain (now (line .entry)) (now (second .entry))) depth (drop y (now (b .entry))))) ⌝ }
+    ensures { λ r.
+        ⌜ r ≡ endsOf (now (a .entry)) (now (b .entry)) (both (indexed (entryOf (now (line .entry)) (now (first .entry)))
+        (drop x (now (a .entry)))) (fillItem (plain (now (line .entry)) (now (second .entry))) depth
+        (drop y (now (b .entry))))) ⌝ }
 {
     let index = number(a, x);
     let end = word(a, index.end, b")");
@@ -229,7 +346,9 @@ pub fn same(
     second: &[usize],
     depth: usize,
 ) -> Ends
-    ensures { λ r. ⌜ r ≡ endsOf (now (a .entry)) (now (b .entry)) (sameItem (plain (now (line .entry)) (now (first .entry))) (plain (now (line .entry)) (now (second .entry))) depth (drop x (now (a .entry))) (drop y (now (b .entry)))) ⌝ }
+    ensures { λ r.
+        ⌜ r ≡ endsOf (now (a .entry)) (now (b .entry)) (sameItem (plain (now (line .entry)) (now (first .entry)))
+        (plain (now (line .entry)) (now (second .entry))) depth (drop x (now (a .entry))) (drop y (now (b .entry)))) ⌝ }
 {
     if depth == 0 {
         return differ(a, b);

@@ -18,8 +18,8 @@ use Rattle.lines.specs.declared.summaries.Summary.{Summary}
 use Rattle.scan.specs.declared.tables.LinkAt.{LinkAt}
 use Rattle.scan.specs.declared.tables.ArrowAt.{ArrowAt}
 use Rattle.scan.specs.declared.tables.SignAt.{SignAt}
-use Rattle.text.specs.Words.{bytes, signWord, signs, linkWord, links, arrowWord, arrows}
-use Rattle.text.specs.Read.{Parsed, bad, got, Reader, after, return, strip, skip, Branch, _⇒_, orElse, oneOf, each, readTerms, readTerm, readArguments, readResult, readLink, readObject, readMethod, readKind, readAtom, readSign, readLiteral}
+use Rattle.text.specs.Read.{signs, links, arrows, Parsed, bad, got, Reader, andThen, return, strip, skip, Branch, _⇒_, orElse, oneOf, each, readTerms, readTerm, readArguments, readResult, readLink, readObject, readMethod, readKind, readAtom, readSign, readLiteral}
+use Rattle.text.specs.Words.{bytes, signWord, linkWord, arrowWord}
 use Rattle.text.specs.Places.{endOf, readOr}
 use Rattle.scan.specs.Tables.{readLinkWord, readArrowWord, linkAt, arrowAt, signAt}
 use Rattle.lines.specs.Summary.{empty, joined, counted, summary, settled, termMeasure, termsMeasure, resultMeasure, atomOf, argumentCount, atomMeasure, literalMeasure}
@@ -107,7 +107,7 @@ module _ (table s : List ℕ) (at : ℕ) where
   unfolding readResult endOf
   result-term d a h l j = j ∙ go (readTerm d (drop at s)) ∙ ap (summary (resultMeasure table) s) (sym (later-word "none" _ _ (drop at s) (miss s at (word-stops 110 (bytes "one")) h l) ∙ no-word _ [] (drop at s)))
     where
-      go : (p : Parsed Term) → summary (termMeasure table) s p ≡ summary (resultMeasure table) s (after p (λ t. return (value t)))
+      go : (p : Parsed Term) → summary (termMeasure table) s p ≡ summary (resultMeasure table) s (andThen p (λ t. return (value t)))
       go bad = refl
       go (got t rest) = rw (value-measure table t)
 
@@ -183,12 +183,12 @@ pick-got r other e = rw e
 pick-bad : {A B : Type 0} {p : Parsed A} (r : A → Reader B) (other : Parsed B) → p ≡ bad → pick p r other ≡ other
 pick-bad r other e = rw e
 
-table-last : {A B : Type 0} (w : A → String) (r : A → Reader B) (table : List A) (bs : List ℕ) → oneOf (each w r table) bs ≡ after (oneOf (each w return table) bs) r
+table-last : {A B : Type 0} (w : A → String) (r : A → Reader B) (table : List A) (bs : List ℕ) → oneOf (each w r table) bs ≡ andThen (oneOf (each w return table) bs) r
 unfolding oneOf
 table-last w r [] bs = refl
 table-last {A} {B} w r (x ∷ table) bs = go (skip (w x) bs) (table-last w r table bs)
   where
-    go : (p : Parsed (Unit {0})) → oneOf (each w r table) bs ≡ after (oneOf (each w return table) bs) r → orElse p (r x) (oneOf (each w r table)) bs ≡ after (orElse p (return x) (oneOf (each w return table)) bs) r
+    go : (p : Parsed (Unit {0})) → oneOf (each w r table) bs ≡ andThen (oneOf (each w return table) bs) r → orElse p (r x) (oneOf (each w r table)) bs ≡ andThen (orElse p (return x) (oneOf (each w return table)) bs) r
     go bad h = h
     go (got u rest) h = refl
 
@@ -219,7 +219,7 @@ module _ (table s : List ℕ) (at d : ℕ) where
   unfolding readArrowWord
   shape-method {l} {o} {a} h k i j q = no-link h k ∙ later-word "obj" _ _ (drop at s) (miss s at (word-stops 111 (bytes "bj")) i j) ∙ table-last arrowWord (readMethod d) arrows (drop at s) ∙ go (look s at arrow-stops (ap (λ (a : ArrowAt). a .end) q))
     where
-      go : Track s (λ _. at ≤ a .end) (readArrowWord (drop at s)) (a .end) → after (readArrowWord (drop at s)) (readMethod d) ≡ readMethod d (a .arrow) (drop (a .end) s)
+      go : Track s (λ _. at ≤ a .end) (readArrowWord (drop at s)) (a .end) → andThen (readArrowWord (drop at s)) (readMethod d) ≡ readMethod d (a .arrow) (drop (a .end) s)
       go (lost b m) = rw (b, past s (a .end) (omega arith)) (sym (method-needs d (a .arrow)))
       go (found x g m _) = rw (g, ap (λ (a : ArrowAt). a .arrow) q ∙ ap (readOr Mt (λ x. x)) g)
 

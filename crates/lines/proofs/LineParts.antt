@@ -16,9 +16,10 @@ use Rattle.lines.specs.declared.summaries.Summary.{Summary}
 use Rattle.scan.specs.declared.tables.RuleAt.{RuleAt}
 use Rattle.lines.specs.declared.forms.Form.the-variants.{NoForm, Sym, Input, By}
 use Rattle.lines.specs.declared.forms.LineAt.{LineAt}
-use Rattle.text.specs.Words.{bytes, ruleWord, rules}
+use Rattle.text.specs.Read.{rules, Parsed, bad, got, Reader, andThen, strip, _⇒_, oneOf, readNumber, readClause, readLet, readRule, readSym, readInput, readStep, readForm, whole, readLine}
+use Rattle.text.specs.Words.{bytes, ruleWord}
 use Rattle.text.specs.Write.{Writer, _∘_, word, putNumber, putClause, putLet, putStep, putLine, writeLine}
-use Rattle.text.specs.Read.{Parsed, bad, got, Reader, after, strip, _⇒_, oneOf, readNumber, readClause, readLet, readRule, readSym, readInput, readStep, readForm, form, whole, readLine}
+use Rattle.text.specs.Form.{form}
 use Rattle.text.specs.Places.{endOf, readOr}
 use Rattle.scan.specs.Numbers.{numberAt}
 use Rattle.scan.specs.Tables.{ruleAt}
@@ -81,7 +82,7 @@ step-path table s st ev ea ei eb ej ek n₁ n₂ n₃ p₁ q₁ p₂ q₂ p₃ q
     λ t. record { form = By; rule = ev t; a = ea t; i = ei t; b = eb t; j = ej t; k = ek t; first = p t; second = q t; clause = r t; width = ec t .width; firsts = ef t .count; seconds = eg t .count; measure = m t }
 
 -- A number after one space, and then what follows.
-onward-number : {C : Type 0} (s : List ℕ) (at : ℕ) {e' : ℕ} {R : C → Type 0} {p : Parsed C} {n : NumberAt} (f : ℕ → Reader C) → n ≡ numberAt s (readSpaced (drop at s)) → p ≡ after (strip (bytes " ") (drop at s)) (λ _ rest. after (readNumber rest) f) → (n .end ≡ length s + 1 → e' ≡ length s + 1) → ((v : ℕ) → n .value ≡ v → p ≡ f v (drop (n .end) s) → Track s R p e') → Track s R p e'
+onward-number : {C : Type 0} (s : List ℕ) (at : ℕ) {e' : ℕ} {R : C → Type 0} {p : Parsed C} {n : NumberAt} (f : ℕ → Reader C) → n ≡ numberAt s (readSpaced (drop at s)) → p ≡ andThen (strip (bytes " ") (drop at s)) (λ _ rest. andThen (readNumber rest) f) → (n .end ≡ length s + 1 → e' ≡ length s + 1) → ((v : ℕ) → n .value ≡ v → p ≡ f v (drop (n .end) s) → Track s R p e') → Track s R p e'
 unfolding readSpaced
 onward-number s at f h w l k = onward s at f spaced-stops (number-end h) (w ∙ sym (after-after (strip (bytes " ") (drop at s)) (λ _. readNumber) f)) l (λ v g _ _ w. k v (number-value s h g) w)
 

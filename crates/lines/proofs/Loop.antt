@@ -11,7 +11,7 @@ use lib.ListN.{length, drop, length-drop, length-append}
 use Rattle.lines.specs.declared.measures.Measure.{Measure}
 use Rattle.lines.specs.declared.summaries.Summary.{Summary}
 use Rattle.text.specs.Words.{bytes}
-use Rattle.text.specs.Read.{Parsed, bad, got, Reader, after, return, strip, _⇒_, orElse, oneOf, readNext, readItems, readMany}
+use Rattle.text.specs.Read.{Parsed, bad, got, Reader, andThen, return, strip, _⇒_, orElse, oneOf, readNext, readItems, readMany}
 use Rattle.text.specs.Places.{endOf}
 use Rattle.lines.specs.Summary.{empty, joined, counted, summary, settled}
 use Rattle.text.proofs.Gives.{strip-gives, given}
@@ -31,16 +31,16 @@ joined-assoc : (n k : ℕ) (a b c : Measure) → counted (n + suc k) (joined a (
 unfolding joined
 joined-assoc n k a b c = measure-path (omega arith) (omega arith) (omega arith) (and-assoc (a .declared) (b .declared) (c .declared))
 
-after-return : {A : Type 0} (p : Parsed A) → p ≡ after p return
+after-return : {A : Type 0} (p : Parsed A) → p ≡ andThen p return
 after-return bad = refl
 after-return (got a rest) = refl
 
-pub after-after : {A B C : Type 0} (p : Parsed A) (f : A → Reader B) (g : B → Reader C) → after (after p f) g ≡ after p (λ a rest. after (f a rest) g)
+pub after-after : {A B C : Type 0} (p : Parsed A) (f : A → Reader B) (g : B → Reader C) → andThen (andThen p f) g ≡ andThen p (λ a rest. andThen (f a rest) g)
 after-after bad f g = refl
 after-after (got a rest) f g = refl
 
 -- The items after one item, behind those before it.
-regroup : {A S : Type 0} (p : Parsed A) (others : Reader S) (more : A → S → S) (front : S → S) → after (after p (λ a bs. after (others bs) (λ x. return (more a x)))) (λ x. return (front x)) ≡ after p (λ a bs. after (others bs) (λ x. return (front (more a x))))
+regroup : {A S : Type 0} (p : Parsed A) (others : Reader S) (more : A → S → S) (front : S → S) → andThen (andThen p (λ a bs. andThen (others bs) (λ x. return (more a x)))) (λ x. return (front x)) ≡ andThen p (λ a bs. andThen (others bs) (λ x. return (front (more a x))))
 regroup bad others more front = refl
 regroup (got a rest) others more front = after-after (others rest) (λ x. return (more a x)) (λ x. return (front x))
 
@@ -57,15 +57,15 @@ pub record Listed (A S : Type 0) : Type 0 where
   pub of-more : (a : A) (x : S) → list (more a x) ≡ counted (suc (list x .count)) (joined (item a) (list x))
 
 -- A space and an item, or the closing bracket: where a space stands, and where none does.
-space-next : {A S : Type 0} (none : S) (more : A → S → S) (read : Reader A) (others : Reader S) (bs : List ℕ) {rest : List ℕ} → strip (bytes " ") bs ≡ got tt rest → readNext none more read others bs ≡ after (read rest) (λ a bs. after (others bs) (λ x. return (more a x)))
+space-next : {A S : Type 0} (none : S) (more : A → S → S) (read : Reader A) (others : Reader S) (bs : List ℕ) {rest : List ℕ} → strip (bytes " ") bs ≡ got tt rest → readNext none more read others bs ≡ andThen (read rest) (λ a bs. andThen (others bs) (λ x. return (more a x)))
 unfolding readNext oneOf strip
 space-next none more read others bs {rest} e = rw (given (strip-gives (bytes " ") bs) e)
 
-no-space-next : {A S : Type 0} (none : S) (more : A → S → S) (read : Reader A) (others : Reader S) (bs : List ℕ) → strip (bytes " ") bs ≡ bad → readNext none more read others bs ≡ after (strip (bytes ")") bs) (λ _. return none)
+no-space-next : {A S : Type 0} (none : S) (more : A → S → S) (read : Reader A) (others : Reader S) (bs : List ℕ) → strip (bytes " ") bs ≡ bad → readNext none more read others bs ≡ andThen (strip (bytes ")") bs) (λ _. return none)
 unfolding readNext oneOf
 no-space-next {A} {S} none more read others bs e = go (strip (bytes ")") bs) _
   where
-    go : (p : Parsed (Unit {0})) (r : Reader S) → orElse p (return none) (oneOf ((" " ⇒ r) ∷ [])) bs ≡ after p (λ _. return none)
+    go : (p : Parsed (Unit {0})) (r : Reader S) → orElse p (return none) (oneOf ((" " ⇒ r) ∷ [])) bs ≡ andThen p (λ _. return none)
     go bad r = rw e
     go (got u rest) r = refl
 
@@ -83,7 +83,7 @@ module _ {A S : Type 0} (L : Listed A S) (s : List ℕ) (at : ℕ) where
   -- The items before the place i have this number and this measure.
   data Lane (i n : ℕ) (m : Measure) : Type 0 where
     lost : readAll (drop at s) ≡ bad → length s < i → Lane i n m
-    found : (front : S → S) → readAll (drop at s) ≡ after (readAll (drop i s)) (λ x. return (front x)) → i ≤ length s → ((x : S) → L .list (front x) ≡ counted (n + L .list x .count) (joined m (L .list x))) → Lane i n m
+    found : (front : S → S) → readAll (drop at s) ≡ andThen (readAll (drop i s)) (λ x. return (front x)) → i ≤ length s → ((x : S) → L .list (front x) ≡ counted (n + L .list x .count) (joined m (L .list x))) → Lane i n m
 
   -- So in the loop, with the place after the space at i.
   pub record Going (i n next : ℕ) (m : Measure) : Type 0 where
@@ -107,7 +107,7 @@ module _ {A S : Type 0} (L : Listed A S) (s : List ℕ) (at : ℕ) where
       spaced : strip (bytes " ") (drop i s) ≡ got tt (drop next s)
       spaced = hit s i (word-stops 32 []) h k .1
 
-      onto : readAll (drop at s) ≡ after (L .read (drop next s)) (λ a bs. after (readAll bs) (λ x. return (front (L .more a x))))
+      onto : readAll (drop at s) ≡ andThen (L .read (drop next s)) (λ a bs. andThen (readAll bs) (λ x. return (front (L .more a x))))
       onto = w ∙ rw (L .step (drop i s) ∙ space-next (L .none) (L .more) (L .read) readAll (drop i s) spaced) (regroup (L .read (drop next s)) readAll (L .more) front)
 
       go : Track s (λ _. next ≤ t .end) (L .read (drop next s)) (t .end) → Lane (t .end) (n + 1) (joined m (t .measure))

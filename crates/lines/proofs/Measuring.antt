@@ -11,7 +11,7 @@ use Rattle.logic.specs.Each.{declares}
 use Rattle.scan.specs.declared.numbers.NumberAt.{NumberAt}
 use Rattle.lines.specs.declared.measures.Measure.{Measure}
 use Rattle.lines.specs.declared.summaries.Summary.{Summary}
-use Rattle.text.specs.Form.{formedNumber}
+use Rattle.text.specs.Form.{formedNumber, maxNumber}
 use Rattle.text.specs.Read.{Parsed, got, readNumber}
 use Rattle.text.specs.Places.{endOf, readOr}
 use Rattle.scan.specs.Numbers.{numberAt}
@@ -56,10 +56,10 @@ number-end h = ap (λ (n : NumberAt). n .end) h
 pub number-value : (s : List ℕ) {p : Parsed ℕ} {v : ℕ} {rest : List ℕ} {n : NumberAt} → n ≡ numberAt s p → p ≡ got v rest → n .value ≡ v
 number-value s h e = ap (λ (n : NumberAt). n .value) h ∙ ap (readOr 0 (λ v. v)) e
 
-pub number-small : (s bs : List ℕ) {n : NumberAt} → n ≡ numberAt s (readNumber bs) → n .value ≤ 65535
+pub number-small : (s bs : List ℕ) {n : NumberAt} → n ≡ numberAt s (readNumber bs) → n .value ≤ maxNumber
 number-small s bs h = rw h (go (number-sound .at bs))
   where
-    go : {p : Parsed ℕ} {Q : ℕ → List ℕ → Type 0} → Gives (λ n rest. Q n rest × T (formedNumber n)) p → readOr 0 (λ v. v) p ≤ 65535
+    go : {p : Parsed ℕ} {Q : ℕ → List ℕ → Type 0} → Gives (λ n rest. Q n rest × T (formedNumber n)) p → readOr 0 (λ v. v) p ≤ maxNumber
     go nothing = omega arith
     go (gives q) = bounded (q .1)
 

@@ -1,3 +1,4 @@
+-- Nothing here is to be believed: it mirrors code on bytes; `line-seen` (crates/reader/proofs/Held) says what it gives of a line.
 -- A line as the reader gives it: its form, its numbers, the places of its parts, and a measure of all of it.
 use Prim.Native.Nat.{ℕ, _-_}
 use mathlib.Core.List.{List, []}
@@ -11,7 +12,8 @@ use Rattle.lines.specs.declared.forms.Form.{Form}
 use Rattle.lines.specs.declared.forms.Form.the-variants.{NoForm, Sym, Input, By}
 use Rattle.lines.specs.declared.forms.LineAt.{LineAt}
 use Rattle.text.specs.Write.{word, putClause, putLet}
-use Rattle.text.specs.Read.{Reader, _>>_, skip, readNumber, Reading, form, noForm}
+use Rattle.text.specs.Form.{Reading, form, noForm}
+use Rattle.text.specs.Read.{Reader, _>>_, skip, readNumber}
 use Rattle.lines.specs.Summary.{empty, joined, termsMeasure, clauseMeasure}
 
 -- The forms by number.
@@ -25,7 +27,8 @@ formNumber By = 3
 unfoldable pub readSpaced : Reader ℕ
 readSpaced = skip " " >> readNumber
 
--- "`(in CLAUSE)`", "`(by RULE A I B J K LET LET CLAUSE)`": the bytes of the line from its clause on, from its second list on, from its first.
+-- T8, `(in CLAUSE)`, and T9, `(by RULE A I B J K LET LET CLAUSE)`: the bytes of the line from its clause on, from its second list on, from
+-- its first.
 unfoldable pub fromClause : Clause → List ℕ
 fromClause c = putClause c (word ")" [])
 

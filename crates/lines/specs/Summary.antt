@@ -1,3 +1,4 @@
+-- Nothing here is to be believed: it mirrors code on bytes; `line-seen` (crates/reader/proofs/Held) says what it gives of a line.
 -- What reading a part in one pass tells of it: its end, and a measure of the value read.
 use Prim.Native.Nat.{ℕ, zero, max}
 use mathlib.Core.Bool.{true, cond, _&&_}
@@ -18,7 +19,12 @@ empty = record { count = 0; width = 0; arguments = 0; declared = true }
 
 -- Two parts together, counted as the first; a part counted anew.
 unfoldable pub joined : Measure → Measure → Measure
-joined a b = record { count = a .count; width = max (a .width) (b .width); arguments = max (a .arguments) (b .arguments); declared = a .declared && b .declared }
+joined a b = record {
+  count = a .count;
+  width = max (a .width) (b .width);
+  arguments = max (a .arguments) (b .arguments);
+  declared = a .declared && b .declared;
+}
 
 abbrev pub counted : ℕ → Measure → Measure
 counted n m = record { count = n; width = m .width; arguments = m .arguments; declared = m .declared }
@@ -48,7 +54,8 @@ mostArguments [] = zero
 mostArguments (lit g x ∷ c) = max (argumentCount x) (mostArguments c)
 
 unfoldable pub atomMeasure : List ℕ → Atom → Measure
-atomMeasure table x = record { count = 1; width = termsWidth (termsOf x); arguments = argumentCount x; declared = eachAtom any (declares table) x }
+atomMeasure table x =
+    record { count = 1; width = termsWidth (termsOf x); arguments = argumentCount x; declared = eachAtom any (declares table) x }
 
 -- An atom whose terms together have this measure.
 abbrev pub atomOf : Measure → ℕ → Measure
@@ -58,7 +65,8 @@ unfoldable pub literalMeasure : List ℕ → Literal → Measure
 literalMeasure table (lit g x) = atomMeasure table x
 
 unfoldable pub clauseMeasure : List ℕ → Clause → Measure
-clauseMeasure table c = record { count = length c; width = width c; arguments = mostArguments c; declared = eachClause any (declares table) c }
+clauseMeasure table c =
+    record { count = length c; width = width c; arguments = mostArguments c; declared = eachClause any (declares table) c }
 
 -- The end of what was read, and its measure.
 abbrev pub summary : {A : Type 0} → (A → Measure) → List ℕ → Parsed A → Summary

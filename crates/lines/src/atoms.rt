@@ -77,7 +77,9 @@ fn atom_of(m: Measure, arguments: usize) -> Measure
 
 // T U) after the word eq, mem or sub.
 fn linked(s: &[u8], at: usize, depth: usize, table: &[u8]) -> Summary
-    ensures { λ r. ⌜ ((l : Link) → r ≡ summary (atomMeasure (now (table .entry))) (now (s .entry)) (readLink depth l (drop at (now (s .entry))))) ⌝ }
+    ensures { λ r.
+        ⌜ ((l : Link) → r ≡ summary (atomMeasure (now (table .entry))) (now (s .entry))
+        (readLink depth l (drop at (now (s .entry))))) ⌝ }
 {
     let t = term(s, word(s, at, b" "), depth, table);
     let u = term(s, word(s, t.end, b" "), depth, table);

@@ -15,7 +15,9 @@ ghost use Rattle.lines.specs.Summary.{termsMeasure, clauseMeasure, summa
 
 // Literals, each after one space, up to the closing bracket.
 fn literals(s: &[u8], at: usize, depth: usize, table: &[u8]) -> Summary
-    ensures { λ r. ⌜ r ≡ summary (clauseMeasure (now (table .entry))) (now (s .entry)) (readMany [] _∷_ (readLiteral depth) (drop at (now (s .entry)))) ⌝ }
+    ensures { λ r.
+        ⌜ r ≡ summary (clauseMeasure (now (table .entry))) (now (s .entry))
+        (readMany [] _∷_ (readLiteral depth) (drop at (now (s .entry)))) ⌝ }
 {
     let mut i = at;
     let mut m = none();

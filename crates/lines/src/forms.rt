@@ -15,9 +15,6 @@ ghost use Rattle.text.specs.Read.{readSym, readInput, readStep, whole, readLine
 ghost use Rattle.scan.specs.Numbers.{numberAt};
 ghost use Rattle.lines.specs.LineAt.{formNumber, readSpaced, shortLine, lineOf};
 
-// Terms nest at most 16 terms deep.
-pub const DEPTH: usize = 16;
-
 pub enum Form {
     NoForm,
     Sym,
@@ -43,7 +40,8 @@ pub fn form_number(f: Form) -> usize
     }
 }
 
-// The places are those of the first list, the second list and the clause; the width is the clause's highest variable plus 1. The measure counts the clause's literals.
+// The places are those of the first list, the second list and the clause; the width is the clause's highest variable plus 1. The measure
+// counts the clause's literals.
 pub struct LineAt {
     pub form: Form,
     pub rule: Rule,
@@ -160,17 +158,19 @@ fn step_line(s: &[u8], at: usize, depth: usize, table: &[u8]) -> LineAt
     }
 }
 
-// A line without its line end, over the table of argument counts.
-pub fn line(s: &[u8], table: &[u8]) -> LineAt
-    ensures { λ r. ⌜ r ≡ lineOf (now (table .entry)) (now (s .entry)) (readLine 16 (now (s .entry))) ⌝ }
+// A line without its line end, over the table of argument counts, its terms at most `depth` deep.
+pub fn line(s: &[u8], table: &[u8], depth: u8) -> LineAt
+    ensures { λ r. ⌜ r ≡ lineOf (now (table .entry)) (now (s .entry)) (readLine depth (now (s .entry))) ⌝ }
+    ensures { λ _. ⌜ (now (s .exit) ≡ now (s .entry)) × (now (table .exit) ≡ now (table .entry)) ⌝ }
 {
+    let deep = depth as usize;
     let y = word(s, 0, b"(sym ");
     if y <= s.len() {
         return sym_line(s, y, table);
     }
     let i = word(s, 0, b"(in ");
     if i <= s.len() {
-        return input_line(s, i, DEPTH, table);
+        return input_line(s, i, deep, table);
     }
-    step_line(s, word(s, 0, b"(by "), DEPTH, table)
+    step_line(s, word(s, 0, b"(by "), deep, table)
 }

@@ -60,7 +60,9 @@ fn applied(f: usize, parts: Measure, table: &[u8]) -> Measure
 
 // Terms, each after one space, up to the closing bracket.
 pub fn terms(s: &[u8], at: usize, depth: usize, table: &[u8]) -> Summary
-    ensures { λ r. ⌜ r ≡ summary (termsMeasure (now (table .entry))) (now (s .entry)) (readTerms (readTerm depth) (drop at (now (s .entry)))) ⌝ }
+    ensures { λ r.
+        ⌜ r ≡ summary (termsMeasure (now (table .entry))) (now (s .entry))
+        (readTerms (readTerm depth) (drop at (now (s .entry)))) ⌝ }
 {
     let n = s.len();
     let mut i = at;
@@ -116,8 +118,8 @@ pub fn term(s: &[u8], at: usize, depth: usize, table: &[u8]) -> Summary
         if closes(s, end) {
             return settle(s, end + 1, applied(f.value, none(), table));
         }
-        let p = terms(s, end, depth - 1, table);
-        return settle(s, p.end, applied(f.value, p.measure, table));
+        let parts = terms(s, end, depth - 1, table);
+        return settle(s, parts.end, applied(f.value, parts.measure, table));
     }
     if b != b'v' {
         return settle(s, s.len() + 1, none());

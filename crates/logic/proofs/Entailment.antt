@@ -1,20 +1,20 @@
 -- From satisfied inputs to every clause: what a list of steps gives is entailed.
-use Prim.Native.Nat.{ℕ, zero, suc, _<_, _≤_, _+_}
-use mathlib.Core.Bool.{Bool, true, false, cond}
+use Prim.Native.Nat.{ℕ, zero, suc, _<_, _+_}
+use mathlib.Core.Bool.{Bool, true, false}
 use mathlib.Core.List.{List, [], _∷_, _++_, map, append-nil, append-assoc}
-use mathlib.Core.Path.{_≡_, refl, sym, ap, subst, _∙_}
+use mathlib.Core.Path.{_≡_, refl, ap, subst}
 use native.Mathlib.Omega.{arith}
 use lib.Dec.{T, leb→le}
 use lib.ListN.{length, getD}
-use Rattle.logic.specs.Syntax.{Term, Terms, Atom, Clause, Step}
+use Rattle.logic.specs.Syntax.{Terms, Atom, Clause, Step}
 use Rattle.logic.specs.Each.{eachTerms, eachClause, declares, any}
-use Rattle.logic.specs.Fill.{Substitution, entries, fillClause}
-use Rattle.logic.specs.Rules.{uses, Parent, filled}
-use Rattle.logic.specs.Judge.{parentClause, parentA, parentB, below, parentsBelow, Given}
-use Rattle.logic.specs.Structure.{Structure, Reading, SomeLiteral, Satisfies, Grounds, Models}
+use Rattle.logic.specs.Fill.{Substitution, entries}
+use Rattle.logic.specs.Rules.{uses, filled}
+use Rattle.logic.specs.StepChecks.{parentClause, parentA, parentB, below, parentsBelow, Given}
+use Rattle.logic.specs.Structure.{Structure, Satisfies, Grounds, Models}
 use Rattle.logic.proofs.Both.{left, right}
 use Rattle.logic.proofs.Filling.{compose}
-use Rattle.logic.proofs.Instances.{further, fillAgreement, holds-fill, infers-fill}
+use Rattle.logic.proofs.Instances.{further, holds-fill, infers-fill}
 use Rattle.logic.proofs.Ground.{entries-ground, clause-ground}
 use Rattle.logic.proofs.Soundness.{infers-sound}
 
@@ -25,14 +25,14 @@ ListsOver table s = T (eachTerms any (declares table) (s .first)) × T (eachTerm
 abbrev pub ClauseOver : List ℕ → Clause → Type 0
 ClauseOver table c = T (eachClause any (declares table) c)
 
-module _ {table : List ℕ} (R : Reading) (H : Atom → Type 0) (S : Structure table H) where
+module _ {table : List ℕ} (H : Atom → Type 0) (S : Structure table H) where
   -- A parent under its list and then a ground substitution is a ground instance of its clause.
-  parent-satisfied : (γ : Substitution) → Grounds table γ → (c : Clause) (ts : Terms) → T (eachTerms any (declares table) ts) → Models R table H c →
-      R .read (SomeLiteral H (filled (further γ (record { clause = c; image = entries ts }))))
-  unfolding Models Satisfies filled further
+  parent-satisfied : (γ : Substitution) → Grounds table γ → (c : Clause) (ts : Terms) → T (eachTerms any (declares table) ts) → Models table H c →
+      Satisfies H (filled (further γ (record { clause = c; image = entries ts })))
+  unfolding Models filled further
   parent-satisfied γ g c ts over m = m (compose γ (entries ts)) (entries-ground table γ g ts over)
 
-  used-parent : (cs : List Clause) (used : Bool) (n : ℕ) → T used → (T used → Models R table H (getD cs n [])) → Models R table H (parentClause cs used n)
+  used-parent : (cs : List Clause) (used : Bool) (n : ℕ) → T used → (T used → Models table H (getD cs n [])) → Models table H (parentClause cs used n)
   unfolding parentClause
   used-parent cs true n u m = m tt
   used-parent cs false n u m = absurd u
@@ -44,11 +44,11 @@ module _ {table : List ℕ} (R : Reading) (H : Atom → Type 0) (S : Structure t
 
   -- A step that the rules give, from satisfied parents.
   pub step-sound : (cs : List Clause) (s : Step) → Given cs s → ListsOver table s → ClauseOver table (getD cs (s .a) []) →
-      (T (uses (s .rule) .a) → Models R table H (getD cs (s .a) [])) → (T (uses (s .rule) .b) → Models R table H (getD cs (s .b) [])) → Models R table H (s .claim)
-  unfolding Models Satisfies parentA parentB further filled Grounds
+      (T (uses (s .rule) .a) → Models table H (getD cs (s .a) [])) → (T (uses (s .rule) .b) → Models table H (getD cs (s .b) [])) → Models table H (s .claim)
+  unfolding Models parentA parentB further filled Grounds
   step-sound cs s w over-lists over a b γ g =
       let h = entries-ground table γ g (s .first) (over-lists .0) in
-      infers-sound H S R (further γ (parentA cs s)) (further γ (parentB cs s))
+      infers-sound H S (further γ (parentA cs s)) (further γ (parentB cs s))
       (clause-ground table (compose γ (entries (s .first))) h (parentClause cs (uses (s .rule) .a) (s .a)) (parent-over cs (uses (s .rule) .a) (s .a) over))
       (h 0)
       (infers-fill γ (w .infers))
@@ -95,10 +95,10 @@ parents cs s w =
     let b = below (length cs) (uses (s .rule) .b) (s .b) in
     (below-parent (length cs) (uses (s .rule) .a) (s .a) (left a b (w .parents)), below-parent (length cs) (uses (s .rule) .b) (s .b) (right a b (w .parents)))
 
-module _ {table : List ℕ} (R : Reading) (H : Atom → Type 0) (S : Structure table H) (Q : ℕ → Type 0) where
+module _ {table : List ℕ} (H : Atom → Type 0) (S : Structure table H) (Q : ℕ → Type 0) where
   -- Each clause whose number is in the set is satisfied.
   abbrev Known : List Clause → Type 0
-  Known cs = (n : ℕ) → n < length cs → Q n → Models R table H (getD cs n [])
+  Known cs = (n : ℕ) → n < length cs → Q n → Models table H (getD cs n [])
 
   pub steps-sound : (cs : List Clause) (ss : List Step) → ((n : ℕ) → ClauseOver table (getD cs n [])) → AllGiven table cs ss → ClosedUnderParents Q cs ss →
       Known cs → Known (cs ++ map (λ (s : Step). s .claim) ss)
@@ -107,7 +107,7 @@ module _ {table : List ℕ} (R : Reading) (H : Atom → Type 0) (S : Structure t
   steps-sound cs (s ∷ ss) over w q known =
       subst Known (append-assoc cs (s .claim ∷ []) (map (λ (s : Step). s .claim) ss))
       (steps-sound (cs ++ (s .claim ∷ [])) ss (over-before table cs (s .claim) over (w .2)) (w .3) (q .1) (λ n h here.
-      last-or-before (Models R table H) cs (s .claim) n h (λ h′. known n h′ here) (λ e.
-      step-sound R H S cs s (w .0) (w .1) (over (s .a))
+      last-or-before (Models table H) cs (s .claim) n h (λ h′. known n h′ here) (λ e.
+      step-sound H S cs s (w .0) (w .1) (over (s .a))
       (λ u. known (s .a) (parents cs s (w .0) .0 u) (q .0 (subst Q e here) .0 u))
       (λ u. known (s .b) (parents cs s (w .0) .1 u) (q .0 (subst Q e here) .1 u)))))

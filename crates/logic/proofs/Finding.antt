@@ -1,11 +1,11 @@
 -- Occurrences: what the search finds is one occurrence replaced, and it finds the same after a further filling.
 use Prim.Native.Nat.{ℕ, zero, suc}
-use mathlib.Core.Path.{_≡_, refl, sym, ap, ap₂, subst, _∙_}
+use mathlib.Core.Path.{_≡_, refl, sym, ap, _∙_}
 use native.Mathlib.Omega.{arith}
 use Rattle.logic.specs.Syntax.{Term, var, app, Terms, nil, cons, Atom, Literal, lit}
 use Rattle.logic.specs.Terms.{count, termsOf, withTerms}
 use Rattle.logic.specs.Fill.{Substitution, fill, fills, fillAtom, fillLiteral}
-use Rattle.logic.specs.Occurrence.{Search, past, found, mapSearch, inTurn, findTerm, findTerms, findAtom, findLiteral, Replaced, ReplacedIn, ReplacedAtom}
+use Rattle.logic.specs.Occurrence.{Search, past, found, mapSearch, inTurn, findTerm, findTerms, findAtom, findLiteral, Replaced, ReplacedAtom}
 use Rattle.logic.proofs.Filling.{compose, fill-fill, fills-fills, terms-fill, with-fill, with-frame, with-own, with-has, with-twice, Fits}
 
 not-past : {X : Type 0} {k : ℕ} {s : Term} {x : X} {P : Type 0} → past k ≡ found s x → P
@@ -26,51 +26,48 @@ found-turn (past k) x second y join e now later = found-map (join x) (second k) 
 found-turn (found t x′) x second y join e now later = now x′ (cc) (cc)
 
 -- "occurrence = S", replaced by u.
-at-once : {s t u v : Term} → found t u ≡ found s v → Replaced s u t v
+at-once : {s t u v : Term} {ts : Terms} → found t u ≡ found s v → Replaced s u (cons t ts) (cons v ts)
 at-once {s} {t} {u} {v} e =
     let h : t ≡ s = cc in
     let h′ : v ≡ u = cc in
-    Replaced.here h h′
+    rw (h, h′) Replaced.here
 
 module _ (σ : Substitution) (u : Term) where
   mutual
     unfolding findTerm fill
 
-    found-replaced : {s v : Term} (t : Term) (k : ℕ) → findTerm σ u t k ≡ found s v → Replaced s u (fill σ t) v
+    found-replaced : {s v : Term} {rest : Terms} (t : Term) (k : ℕ) → findTerm σ u t k ≡ found s v → Replaced s u (cons (fill σ t) rest) (cons v rest)
     found-replaced (var n) zero e = at-once e
     found-replaced (var n) (suc k) e = not-past e
     found-replaced (app f ts) zero e = at-once e
     found-replaced (app f ts) (suc k) e = found-map (app f) (findTerms σ u ts k) e (λ us e₁ e₂. rw (← e₂) (Replaced.part (founds-replaced ts k e₁)))
 
-    founds-replaced : {s : Term} {us : Terms} (ts : Terms) (k : ℕ) → findTerms σ u ts k ≡ found s us → ReplacedIn s u (fills σ ts) us
+    founds-replaced : {s : Term} {us : Terms} (ts : Terms) (k : ℕ) → findTerms σ u ts k ≡ found s us → Replaced s u (fills σ ts) us
     founds-replaced nil k e = not-past e
     founds-replaced (cons t ts) k e =
         found-turn (findTerm σ u t k) (fill σ t) (findTerms σ u ts) (fills σ ts) cons e
-        (λ v e₁ e₂. rw (← e₂) (ReplacedIn.now (found-replaced t k e₁)))
-        (λ n us e₁ e₂. rw (← e₂) (ReplacedIn.later (founds-replaced ts n e₁)))
+        (λ v e₁ e₂. rw (← e₂) (found-replaced t k e₁))
+        (λ n us e₁ e₂. rw (← e₂) (Replaced.later (founds-replaced ts n e₁)))
 
 -- One occurrence replaced keeps the number of terms, and can be put back.
 module _ {a b : Term} where
-  pub replaced-count : {ts us : Terms} → ReplacedIn a b ts us → count us ≡ count ts
+  pub replaced-count : {ts us : Terms} → Replaced a b ts us → count us ≡ count ts
   unfolding count
-  replaced-count (ReplacedIn.now p) = refl
-  replaced-count (ReplacedIn.later p) = ap suc (replaced-count p)
+  replaced-count Replaced.here = refl
+  replaced-count (Replaced.part p) = refl
+  replaced-count (Replaced.later p) = ap suc (replaced-count p)
 
-  mutual
-    replaced-back : {t u : Term} → Replaced a b t u → Replaced b a u t
-    replaced-back (Replaced.here e e′) = Replaced.here e′ e
-    replaced-back (Replaced.part p) = Replaced.part (replaced-in-back p)
-
-    replaced-in-back : {ts us : Terms} → ReplacedIn a b ts us → ReplacedIn b a us ts
-    replaced-in-back (ReplacedIn.now p) = ReplacedIn.now (replaced-back p)
-    replaced-in-back (ReplacedIn.later p) = ReplacedIn.later (replaced-in-back p)
+  replaced-back : {ts us : Terms} → Replaced a b ts us → Replaced b a us ts
+  replaced-back Replaced.here = Replaced.here
+  replaced-back (Replaced.part p) = Replaced.part (replaced-back p)
+  replaced-back (Replaced.later p) = Replaced.later (replaced-back p)
 
 pub atom-back : (a b : Term) (x y : Atom) → ReplacedAtom a b x y → ReplacedAtom b a y x
 unfolding ReplacedAtom
 atom-back a b x y w =
     let us : Terms = w .0 in
     let f : Fits x us = replaced-count (w .1) in
-    (termsOf x, rw (w .2, with-has x us f) (replaced-in-back (w .1)), sym (rw (w .2) (with-twice x us (termsOf x) f ∙ with-own x)))
+    (termsOf x, rw (w .2, with-has x us f) (replaced-back (w .1)), sym (rw (w .2) (with-twice x us (termsOf x) f ∙ with-own x)))
 
 -- "occurrence K" of an atom, found and replaced.
 pub atom-replaced : (σ : Substitution) (u : Term) {s : Term} {y : Atom} (x : Atom) (k : ℕ) → findAtom σ u x k ≡ found s y → ReplacedAtom s u (fillAtom σ x) y

@@ -1,8 +1,7 @@
 -- What holds of each variable and symbol, carried along a filling; ground instances.
 use Prim.Native.Nat.{ℕ, zero, suc}
-use mathlib.Core.Bool.{Bool, true, false, _&&_}
-use mathlib.Core.List.{List, [], _∷_, map}
-use mathlib.Core.Path.{_≡_, refl, sym, ap, subst, _∙_}
+use mathlib.Core.Bool.{Bool, true}
+use mathlib.Core.List.{List, [], _∷_}
 use lib.Dec.{T}
 use Rattle.logic.specs.Syntax.{Term, var, app, Terms, nil, cons, Atom, Literal, lit, Clause}
 use Rattle.logic.specs.Terms.{count, entryOr, termsOf}

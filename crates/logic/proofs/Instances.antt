@@ -1,15 +1,15 @@
 -- An inference stays one when its parents are filled further: its clause is then filled further too.
-use Prim.Native.Nat.{ℕ, zero, suc}
-use mathlib.Core.List.{List, [], _∷_, _++_}
-use mathlib.Core.Logic.{_⊎_, inl, inr}
-use mathlib.Core.Path.{_≡_, refl, sym, ap, ap₂, subst, _∙_}
+use Prim.Native.Nat.{ℕ}
+use mathlib.Core.List.{_∷_, _++_}
+use mathlib.Core.Logic.{inl, inr}
+use mathlib.Core.Path.{_≡_, refl, sym, ap, _∙_}
 use Rattle.logic.specs.declared.Link.the-variants.{Eq}
 use Rattle.logic.specs.declared.Rule.{Rule}
 use Rattle.logic.specs.declared.Rule.the-variants.{Par}
-use Rattle.logic.specs.Syntax.{Term, Terms, nil, cons, Atom, link, Literal, Clause}
+use Rattle.logic.specs.Syntax.{Term, Terms, link, Literal, Clause}
 use Rattle.logic.specs.Fill.{Substitution, fill, fills, fillResult, fillAtom, fillLiteral, fillClause}
-use Rattle.logic.specs.Occurrence.{Search, past, found, findLiteral}
-use Rattle.logic.specs.Rules.{bare, Covers, Agreement, always, equal, covering, alike, Holds, Placed, plus, one, Row, Parent, filled, At, Infers}
+use Rattle.logic.specs.Occurrence.{Search, found, findLiteral}
+use Rattle.logic.specs.Rules.{Covers, Agreement, always, equal, covering, Call, call, alike, Holds, Placed, plus, one, Row, Parent, filled, At, Infers}
 use Rattle.logic.proofs.Filling.{compose, clause-fill, clause-append, bare-fill}
 use Rattle.logic.proofs.Finding.{fillSearch, literal-find-fill}
 
@@ -17,11 +17,14 @@ use Rattle.logic.proofs.Finding.{fillSearch, literal-find-fill}
 unfoldable pub further : Substitution → Parent → Parent
 further γ A = record { clause = A .clause; image = compose γ (A .image) }
 
+unfoldable pub fillCall : Substitution → Call → Call
+fillCall γ (call a o m ts) = call a (fill γ o) (fill γ m) (fills γ ts)
+
 unfoldable pub fillAgreement : Substitution → Agreement → Agreement
 fillAgreement γ always = always
 fillAgreement γ (equal ts us) = equal (fills γ ts) (fills γ us)
 fillAgreement γ (covering x y) = covering (fillAtom γ x) (fillAtom γ y)
-fillAgreement γ (alike x y) = alike (fillAtom γ x) (fillAtom γ y)
+fillAgreement γ (alike x y) = alike (fillCall γ x) (fillCall γ y)
 
 module _ (γ : Substitution) where
   filled-further : (A : Parent) → filled (further γ A) ≡ fillClause γ (filled A)
@@ -47,11 +50,11 @@ module _ (γ : Substitution) where
   holds-fill (equal ts us) h = ap (fills γ) h
   holds-fill (covering x y) (inl e) = inl (ap (fillAtom γ) e)
   holds-fill (covering x y) (inr e) = inr (sym (bare-fill γ x) ∙ ap (fillAtom γ) e)
-  holds-fill (alike x y) h = ap (fillAtom γ) h
+  holds-fill (alike x y) h = ap (fillCall γ) h
 
   row-fill : {k : ℕ} {rule : Rule} {l m : Literal} {g : Agreement} {new : Clause} →
       Row k rule l m g new → Row k rule (fillLiteral γ l) (fillLiteral γ m) (fillAgreement γ g) (fillClause γ new)
-  unfolding fillClause fillLiteral fillAtom fillAgreement fill fillResult
+  unfolding fillClause fillLiteral fillAtom fillCall fillAgreement fill fillResult
   row-fill Row.res = Row.res
   row-fill Row.acy = Row.acy
   row-fill Row.tra = Row.tra

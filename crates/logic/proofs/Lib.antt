@@ -1,11 +1,11 @@
 pub mod Both
-pub mod Checks
 pub mod Table
 pub mod Steps
 pub mod Filling
 pub mod Finding
 pub mod Instances
 pub mod Ground
+pub mod Tested
 pub mod Soundness
 pub mod Entailment
 pub mod Agreeing

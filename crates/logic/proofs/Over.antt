@@ -1,21 +1,17 @@
 -- What holds of each variable and symbol of the parents, and that none stands only where it may, holds of what a rule gives.
-use Prim.Native.Nat.{ℕ, zero, suc}
-use mathlib.Core.Bool.{Bool, true, false, _&&_}
-use mathlib.Core.List.{List, [], _∷_, _++_}
-use mathlib.Core.Path.{_≡_, refl, sym, ap, subst, _∙_}
+use Prim.Native.Nat.{ℕ}
+use mathlib.Core.Bool.{Bool}
+use mathlib.Core.List.{[], _∷_, _++_}
+use mathlib.Core.Path.{_≡_, refl, subst}
 use lib.Dec.{T}
-use Rattle.logic.specs.declared.Link.{Link}
-use Rattle.logic.specs.declared.Arrow.{Arrow}
 use Rattle.logic.specs.declared.Rule.{Rule}
-use Rattle.logic.specs.Syntax.{Term, Terms, nil, cons, Result, value, none, Atom, link, obj, method, Literal, lit, Clause, mayBeNone}
-use Rattle.logic.specs.Terms.{join, resultTerms, termsOf, withTerms}
-use Rattle.logic.specs.Each.{eachTerm, eachAtom, atomOver, allowed, allowedResult, allowedClause}
+use Rattle.logic.specs.Syntax.{Term, Result, value, none, Atom, link, obj, method, Literal, lit, Clause, mayBeNone}
+use Rattle.logic.specs.Each.{eachTerm, eachAtom, eachClause, atomOver, allowed, allowedResult, allowedClause}
 use Rattle.logic.specs.Fill.{Substitution, fillResult, fillAtom, fillLiteral, fillClause}
-use Rattle.logic.specs.Occurrence.{found, findAtom, findTerms, findLiteral, ReplacedIn, ReplacedAtom}
-use Rattle.logic.specs.Rules.{Agreement, Placed, plus, minus, Row, Parent, filled, At, Infers}
+use Rattle.logic.specs.Occurrence.{found, findAtom, findLiteral}
+use Rattle.logic.specs.Rules.{Agreement, Row, Parent, filled, At, Infers}
 use Rattle.logic.proofs.Both.{left, right, both}
-use Rattle.logic.proofs.Filling.{with-has, Fits, terms-fill}
-use Rattle.logic.proofs.Finding.{found-map, atom-replaced, replaced-count}
+use Rattle.logic.proofs.Finding.{found-map, atom-replaced}
 use Rattle.logic.proofs.Instances.{at-fill}
 use Rattle.logic.proofs.Ground.{atom-each-fill}
 use Rattle.logic.proofs.Parts.{placed-each, link-parts, link-over, method-parts, method-over, replaced-over}
@@ -90,6 +86,20 @@ fill-over p q s σ h (lit g x ∷ c) w = (
       (atom-each-fill p q s σ h x (right (allowed x) (eachAtom p s x) (w .0))),
   fill-over p q s σ h c (w .1),
 )
+
+-- A clause that is over p and s, its atoms allowed; and back.
+pub over-clause : (p : ℕ → Bool) (s : ℕ → ℕ → Bool) (c : Clause) → T (allowedClause c) → T (eachClause p s c) → Over p s c
+unfolding Over atomOver allowedClause eachClause
+over-clause p s [] h w = tt
+over-clause p s (lit g x ∷ c) h w = (
+  both (allowed x) (eachAtom p s x) (left (allowed x) (allowedClause c) h) (left (eachAtom p s x) (eachClause p s c) w),
+  over-clause p s c (right (allowed x) (allowedClause c) h) (right (eachAtom p s x) (eachClause p s c) w),
+)
+
+pub over-each : (p : ℕ → Bool) (s : ℕ → ℕ → Bool) (c : Clause) → Over p s c → T (eachClause p s c)
+unfolding Over atomOver eachClause
+over-each p s [] w = tt
+over-each p s (lit g x ∷ c) w = both (eachAtom p s x) (eachClause p s c) (right (allowed x) (eachAtom p s x) (w .0)) (over-each p s c (w .1))
 
 pub over-allowed : (p : ℕ → Bool) (s : ℕ → ℕ → Bool) (c : Clause) → Over p s c → T (allowedClause c)
 unfolding Over atomOver allowedClause

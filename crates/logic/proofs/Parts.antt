@@ -1,14 +1,14 @@
 -- The parts of an atom of which something holds for each variable and symbol.
-use Prim.Native.Nat.{ℕ, zero, suc}
-use mathlib.Core.Bool.{Bool, true, false, _&&_}
+use Prim.Native.Nat.{ℕ}
+use mathlib.Core.Bool.{Bool, true, _&&_}
 use mathlib.Core.Path.{_≡_, refl}
 use lib.Dec.{T}
 use Rattle.logic.specs.declared.Link.{Link}
 use Rattle.logic.specs.declared.Arrow.{Arrow}
-use Rattle.logic.specs.Syntax.{Term, app, Terms, nil, cons, Result, value, none, Atom, link, obj, method, mayBeNone}
+use Rattle.logic.specs.Syntax.{Term, Terms, nil, cons, Result, value, none, Atom, link, obj, method, mayBeNone}
 use Rattle.logic.specs.Terms.{count, join, resultTerms, termsOf, withResult, withTerms}
 use Rattle.logic.specs.Each.{eachTerm, eachTerms, eachAtom, atomOver, allowed, allowedResult}
-use Rattle.logic.specs.Occurrence.{Replaced, ReplacedIn, ReplacedAtom}
+use Rattle.logic.specs.Occurrence.{Replaced, ReplacedAtom}
 use Rattle.logic.specs.Rules.{Placed}
 use Rattle.logic.proofs.Both.{left, right, both}
 use Rattle.logic.proofs.Filling.{Fits, with-has}
@@ -34,20 +34,16 @@ module _ (p : ℕ → Bool) (s : ℕ → ℕ → Bool) where
   placed-each (Placed.there {t = t} {ts = ts} {us = us} x) h w =
       both (eachTerm p s t) (eachTerms p s us) (left (eachTerm p s t) (eachTerms p s ts) w) (placed-each x h (right (eachTerm p s t) (eachTerms p s ts) w))
 
-  module _ {a b : Term} (h : T (eachTerm p s b)) where
-    mutual
-      unfolding eachTerm
-
-      replaced-each : {t u : Term} → Replaced a b t u → T (eachTerm p s t) → T (eachTerm p s u)
-      replaced-each (Replaced.here e e′) w = rw e′ h
-      replaced-each (Replaced.part {f = f} {ts = ts} {us = us} x) w =
-          both (s f (count us)) (eachTerms p s us) (rw (replaced-count x) (left (s f (count ts)) (eachTerms p s ts) w)) (replaced-in-each x (right (s f (count ts)) (eachTerms p s ts) w))
-
-      pub replaced-in-each : {ts us : Terms} → ReplacedIn a b ts us → T (eachTerms p s ts) → T (eachTerms p s us)
-      replaced-in-each (ReplacedIn.now {t = t} {u = u} {ts = ts} x) w =
-          both (eachTerm p s u) (eachTerms p s ts) (replaced-each x (left (eachTerm p s t) (eachTerms p s ts) w)) (right (eachTerm p s t) (eachTerms p s ts) w)
-      replaced-in-each (ReplacedIn.later {t = t} {ts = ts} {us = us} x) w =
-          both (eachTerm p s t) (eachTerms p s us) (left (eachTerm p s t) (eachTerms p s ts) w) (replaced-in-each x (right (eachTerm p s t) (eachTerms p s ts) w))
+  pub replaced-each : {a b : Term} {ts us : Terms} → T (eachTerm p s b) → Replaced a b ts us → T (eachTerms p s ts) → T (eachTerms p s us)
+  unfolding eachTerm
+  replaced-each {a} {b} h (Replaced.here {ts = ts}) w = both (eachTerm p s b) (eachTerms p s ts) h (right (eachTerm p s a) (eachTerms p s ts) w)
+  replaced-each h (Replaced.part {f = f} {ts = ts} {us = us} {rest = rest} x) w =
+      let v = left (s f (count ts) && eachTerms p s ts) (eachTerms p s rest) w in
+      both (s f (count us) && eachTerms p s us) (eachTerms p s rest)
+      (both (s f (count us)) (eachTerms p s us) (rw (replaced-count x) (left (s f (count ts)) (eachTerms p s ts) v)) (replaced-each h x (right (s f (count ts)) (eachTerms p s ts) v)))
+      (right (s f (count ts) && eachTerms p s ts) (eachTerms p s rest) w)
+  replaced-each h (Replaced.later {t = t} {ts = ts} {us = us} x) w =
+      both (eachTerm p s t) (eachTerms p s us) (left (eachTerm p s t) (eachTerms p s ts) w) (replaced-each h x (right (eachTerm p s t) (eachTerms p s ts) w))
 
 result-allowed : (b : Bool) (r : Result) (us : Terms) → allowedResult b (withResult r us) ≡ allowedResult b r
 unfolding allowedResult withResult
@@ -118,5 +114,5 @@ module _ (p : ℕ → Bool) (s : ℕ → ℕ → Bool) where
   replaced-over a b x y h w r =
       let us : Terms = r .0 in
       let f : Fits x us = replaced-count (r .1) in
-      let k = replaced-in-each p s h (r .1) (right (allowed x) (Es (termsOf x)) w) in
+      let k = replaced-each p s h (r .1) (right (allowed x) (Es (termsOf x)) w) in
       rw (r .2, with-allowed x us, with-has x us f) (both (allowed x) (Es us) (left (allowed x) (Es (termsOf x)) w) k)

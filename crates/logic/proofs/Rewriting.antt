@@ -1,20 +1,19 @@
 -- Six rules rewrite: a term of the literal at I agrees with one side of a positive link at J, and the other side takes its place.
 use Prim.Native.Nat.{ℕ, zero, suc}
 use mathlib.Core.Bool.{Bool, true, false, cond}
-use mathlib.Core.List.{List, [], _∷_}
+use mathlib.Core.List.{[], _∷_}
 use mathlib.Core.Logic.{ite}
-use mathlib.Core.Path.{_≡_, refl, sym, ap, _∙_}
-use lib.Dec.{T}
+use mathlib.Core.Path.{_≡_, refl}
 use Rattle.logic.specs.declared.Sign.the-variants.{Positive, Negative}
 use Rattle.logic.specs.declared.Link.{Link}
-use Rattle.logic.specs.declared.Link.the-variants.{Eq, Mem, Sub}
+use Rattle.logic.specs.declared.Link.the-variants.{Mem, Sub}
 use Rattle.logic.specs.declared.Arrow.{Arrow}
 use Rattle.logic.specs.declared.Rule.{Rule}
 use Rattle.logic.specs.declared.Rule.the-variants.{Refl, Res, Fac, Par, Acy, Tra, Inc, Inh, Inp, Out, Sca, Eli}
 use Rattle.logic.specs.Syntax.{Term, Terms, nil, cons, Result, value, none, Atom, link, obj, method, Literal, lit}
 use Rattle.logic.specs.Equality.{link?}
 use Rattle.logic.specs.Fill.{Substitution, fill, fills, fillResult, fillAtom, fillLiteral}
-use Rattle.logic.specs.Rules.{Agreement, equal, signature, plus, one}
+use Rattle.logic.specs.Rules.{equal, signature, plus, one}
 use Rattle.logic.specs.Judge.{Conclusion, misshapen, concludes, onPlus, onLink, onResult, onMethod, onPlaced, onSub, onSignature, conclude-link, conclude-inh, conclude-inp, conclude-out, tableRow}
 
 -- The term that a rule rewrites, and the filled literal with another term in its place.

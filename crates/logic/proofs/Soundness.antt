@@ -1,23 +1,21 @@
 -- Each of the twelve rules is sound, for one ground substitution, constructively.
-use Prim.Native.Nat.{ℕ, zero, suc}
-use mathlib.Core.Bool.{Bool, true, false, _&&_}
+use Prim.Native.Nat.{ℕ, suc}
+use mathlib.Core.Bool.{true, _&&_}
 use mathlib.Core.List.{List, [], _∷_, _++_}
 use mathlib.Core.Logic.{_⊎_, inl, inr}
-use mathlib.Core.Path.{_≡_, refl, sym, ap, subst, _∙_}
+use mathlib.Core.Path.{_≡_, refl, sym, ap, subst}
 use lib.Dec.{T}
 use Rattle.logic.specs.declared.Sign.the-variants.{Positive, Negative}
-use Rattle.logic.specs.declared.Link.the-variants.{Eq, Mem, Sub}
-use Rattle.logic.specs.declared.Arrow.{Arrow}
+use Rattle.logic.specs.declared.Link.the-variants.{Eq, Sub}
 use Rattle.logic.specs.declared.Rule.{Rule}
-use Rattle.logic.specs.declared.Rule.the-variants.{Refl, Res, Fac, Par, Acy, Tra, Inc, Inh, Inp, Out, Sca, Eli}
-use Rattle.logic.specs.Syntax.{Term, Terms, nil, cons, Result, value, none, Atom, link, obj, method, Literal, lit, Clause}
+use Rattle.logic.specs.Syntax.{Term, nil, cons, value, Atom, link, obj, method, Literal, lit, Clause}
 use Rattle.logic.specs.Terms.{termsOf, withTerms, nth, entryOr}
-use Rattle.logic.specs.Each.{eachTerm, eachTerms, eachAtom, eachClause, declares, never, groundTerm, groundAtom, allowed}
+use Rattle.logic.specs.Each.{eachTerm, eachAtom, eachClause, declares, never, groundTerm, groundAtom}
 use Rattle.logic.specs.Fill.{Substitution, fillAtom, fillLiteral, fillClause}
-use Rattle.logic.specs.Occurrence.{found, findAtom, findLiteral, Replaced, ReplacedIn, ReplacedAtom}
-use Rattle.logic.specs.Rules.{uses, bare, Covers, Agreement, always, equal, covering, alike, Holds, signature, scalar, Placed, plus, minus, one, Row, Parent, filled, At, Infers}
-use Rattle.logic.specs.Structure.{Structure, SatisfiesLiteral, SomeLiteral, Reading}
-use Rattle.logic.proofs.Both.{left, right}
+use Rattle.logic.specs.Occurrence.{found, findAtom, findLiteral, Replaced, ReplacedAtom}
+use Rattle.logic.specs.Rules.{uses, Covers, Agreement, equal, Holds, plus, minus, one, Row, Parent, filled, At, Infers}
+use Rattle.logic.specs.Structure.{Structure, SatisfiesLiteral, SomeLiteral, Satisfies}
+use Rattle.logic.proofs.Both.{left}
 use Rattle.logic.proofs.Finding.{atom-back, atom-replaced, found-map}
 use Rattle.logic.proofs.Instances.{at-fill}
 use Rattle.logic.proofs.Ground.{at-each}
@@ -72,7 +70,7 @@ module _ {table : List ℕ} (H : Atom → Type 0) (S : Structure table H) where
 
   eq-sym : {a b : Term} → H (link Eq a b) → H (link Eq b a)
   unfolding ReplacedAtom termsOf withTerms nth entryOr
-  eq-sym {a} {b} h = S .replace h (S .eq-refl a (eq-ground h)) (cons b (cons a nil), ReplacedIn.now (Replaced.here refl refl), refl)
+  eq-sym {a} {b} h = S .replace h (S .eq-refl a (eq-ground h)) (cons b (cons a nil), Replaced.here, refl)
 
   -- Replacing an occurrence by an equal term keeps a literal satisfied, of either sign.
   replaced-sound : (σ : Substitution) (u : Term) {s : Term} (l : Literal) {l′ : Literal} (k : ℕ) → findLiteral σ u l k ≡ found s l′ →
@@ -165,17 +163,15 @@ module _ {table : List ℕ} (H : Atom → Type 0) (S : Structure table H) where
   row-uses (Row.out h) = (tt, tt)
   row-uses (Row.sca h h′) = (tt, tt)
 
-  -- All twelve, under any reading of "is satisfied": where the used parents are satisfied, so is what the rule gives.
-  pub infers-sound : (R : Reading) (A B : Parent) {i j k : ℕ} {rule : Rule} {g : Agreement} {c : Clause} →
+  -- All twelve: where the used parents are satisfied, so is what the rule gives.
+  pub infers-sound : (A B : Parent) {i j k : ℕ} {rule : Rule} {g : Agreement} {c : Clause} →
       T (eachClause never (declares table) (filled A)) → T (groundTerm table (A .image 0)) →
       Infers A B i j k rule g c → Holds g →
-      (T (uses rule .a) → R .read (SomeLiteral H (filled A))) → (T (uses rule .b) → R .read (SomeLiteral H (filled B))) →
-      R .read (SomeLiteral H c)
-  unfolding uses Holds SomeLiteral SatisfiesLiteral
-  infers-sound R A B ground zero-ground Infers.refl e a b = R .return (inl (S .sub-refl (A .image 0) zero-ground))
-  infers-sound R A B ground zero-ground (Infers.fac⁺ p q n) e a b = R .bind (a tt) (λ h. R .return (fac-plus p q n e h))
-  infers-sound R A B ground zero-ground (Infers.fac⁻ p q n) e a b = R .bind (a tt) (λ h. R .return (fac-minus p q n e h))
-  infers-sound R A B {k = k} ground zero-ground (Infers.par p q w) e a b = R .bind (a tt) (λ h. R .bind (b tt) (λ h′. R .return (par-sound A B k p q w e h h′)))
-  infers-sound R A B ground zero-ground (Infers.eli p) e a b = R .bind (a tt) (λ h. R .return (eli-sound p ground h))
-  infers-sound R A B ground zero-ground (Infers.two p q w) e a b =
-      R .bind (a (row-uses w .0)) (λ h. R .bind (b (row-uses w .1)) (λ h′. R .return (two-sound p q w e h h′)))
+      (T (uses rule .a) → Satisfies H (filled A)) → (T (uses rule .b) → Satisfies H (filled B)) → Satisfies H c
+  unfolding uses Holds SomeLiteral SatisfiesLiteral Satisfies
+  infers-sound A B ground zero-ground Infers.refl e a b n = n (inl (S .sub-refl (A .image 0) zero-ground))
+  infers-sound A B ground zero-ground (Infers.fac⁺ p q d) e a b n = a tt (λ h. n (fac-plus p q d e h))
+  infers-sound A B ground zero-ground (Infers.fac⁻ p q d) e a b n = a tt (λ h. n (fac-minus p q d e h))
+  infers-sound A B {k = k} ground zero-ground (Infers.par p q w) e a b n = a tt (λ h. b tt (λ h′. n (par-sound A B k p q w e h h′)))
+  infers-sound A B ground zero-ground (Infers.eli p) e a b n = a tt (λ h. n (eli-sound p ground h))
+  infers-sound A B ground zero-ground (Infers.two p q w) e a b n = a (row-uses w .0) (λ h. b (row-uses w .1) (λ h′. n (two-sound p q w e h h′)))

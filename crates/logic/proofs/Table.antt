@@ -1,24 +1,23 @@
 -- The rule table as a relation and as a function agree.
 use Prim.Native.Nat.{ℕ, zero, suc}
 use mathlib.Core.Bool.{Bool, true, false, cond}
-use mathlib.Core.List.{List, [], _∷_, _++_}
+use mathlib.Core.List.{[], _∷_, _++_}
 use mathlib.Core.Logic.{ite, if-pos}
 use mathlib.Core.Path.{_≡_, refl, sym, ap, subst, _∙_}
 use native.Mathlib.Omega.{arith}
 use lib.Dec.{T, eqb, eqb→eq, eqb-refl}
-use Rattle.logic.specs.declared.Sign.{Sign}
 use Rattle.logic.specs.declared.Sign.the-variants.{Positive, Negative}
 use Rattle.logic.specs.declared.Link.{Link}
 use Rattle.logic.specs.declared.Link.the-variants.{Eq, Mem, Sub}
 use Rattle.logic.specs.declared.Arrow.{Arrow}
 use Rattle.logic.specs.declared.Rule.{Rule}
 use Rattle.logic.specs.declared.Rule.the-variants.{Refl, Res, Fac, Par, Acy, Tra, Inc, Inh, Inp, Out, Sca, Eli}
-use Rattle.logic.specs.Syntax.{Term, Terms, nil, cons, Result, value, none, Atom, link, obj, method, Literal, lit, Clause}
+use Rattle.logic.specs.Syntax.{Term, Terms, nil, cons, value, none, Atom, link, obj, method, Literal, lit, Clause}
 use Rattle.logic.specs.Equality.{link?}
 use Rattle.logic.specs.Fill.{fillClause}
-use Rattle.logic.specs.Occurrence.{Search, past, found, findLiteral}
-use Rattle.logic.specs.Rules.{Agreement, always, equal, covering, alike, signature, scalar, Placed, plus, minus, one, Row, Parent, filled, At, Infers}
-use Rattle.logic.specs.Judge.{Conclusion, misshapen, concludes, onAt, onPlus, onMinus, onLink, onObj, onResult, onMethod, onPlaced, onFound, onSub, onSignature, onScalar, withNew, before, tableRow, two, conclude, conclude-eli, conclude-res, conclude-acy, conclude-link, conclude-inh, conclude-inp, conclude-out, conclude-sca, conclude-fac, conclude-par}
+use Rattle.logic.specs.Occurrence.{Search, past, found}
+use Rattle.logic.specs.Rules.{Agreement, signature, scalar, Placed, plus, minus, Row, Parent, filled, At, Infers}
+use Rattle.logic.specs.Judge.{Conclusion, misshapen, concludes, onAt, onPlus, onMinus, onLink, onObj, onResult, onMethod, onPlaced, onFound, onSub, onSignature, onScalar, before, tableRow, conclude-two, conclude, conclude-eli, conclude-res, conclude-acy, conclude-link, conclude-inh, conclude-inp, conclude-out, conclude-sca, conclude-fac, conclude-par}
 
 -- Nothing misshapen concludes.
 not-misshapen : {g : Agreement} {c : Clause} {P : Type 0} → misshapen ≡ concludes g c → P
@@ -127,8 +126,8 @@ module _ {g : Agreement} {d : Clause} {P : Type 0} where
   arrow-found p l f e k = plus-found l _ e (λ x e₁ e₂. method-found p x f e₂ (λ a o m ts r h e₃. k a o m ts r h (e₁ ∙ ap plus e₃)))
 
 two-finds : (A B : Parent) {i j : ℕ} {l m : Literal} {r r′ : Clause} (f : Literal → Literal → Conclusion) →
-    At i l (filled A) r → At j m (filled B) r′ → two A B i j f ≡ before (f l m) (r ++ r′)
-unfolding two
+    At i l (filled A) r → At j m (filled B) r′ → conclude-two A B i j f ≡ before (f l m) (r ++ r′)
+unfolding conclude-two
 two-finds A B {i} {j} {l} {m} {r} {r′} f p q =
     at-finds (λ l r. onAt j (filled B) (λ m r′. before (f l m) (r ++ r′))) p ∙ at-finds (λ m r′. before (f l m) (r ++ r′)) q
 
@@ -145,7 +144,7 @@ row-finds (Row.out h) = method-finds signature _ _ _ _ _ _ h ∙ link-finds Sub 
 row-finds (Row.sca h h′) = method-finds scalar _ _ _ _ _ _ h ∙ method-finds scalar _ _ _ _ _ _ h′
 
 -- A rule with a row has two parents.
-row-two : (A B : Parent) (i j k : ℕ) {rule : Rule} {l m : Literal} {g : Agreement} {new : Clause} → Row k rule l m g new → conclude A B i j k rule ≡ two A B i j (tableRow k rule)
+row-two : (A B : Parent) (i j k : ℕ) {rule : Rule} {l m : Literal} {g : Agreement} {new : Clause} → Row k rule l m g new → conclude A B i j k rule ≡ conclude-two A B i j (tableRow k rule)
 unfolding conclude
 row-two A B i j k Row.res = refl
 row-two A B i j k Row.acy = refl
@@ -227,8 +226,8 @@ module _ {k : ℕ} {g : Agreement} {d : Clause} {l m : Literal} where
 
 -- Whatever the function concludes, the table infers.
 module _ (A B : Parent) (i j k : ℕ) {g : Agreement} {d : Clause} where
-  two-found : (rule : Rule) → two A B i j (tableRow k rule) ≡ concludes g d → Infers A B i j k rule g d
-  unfolding two
+  two-found : (rule : Rule) → conclude-two A B i j (tableRow k rule) ≡ concludes g d → Infers A B i j k rule g d
+  unfolding conclude-two
   two-found rule e =
       at-found i (filled A) _ e (λ l r p e₁. at-found j (filled B) _ e₁ (λ m r′ q e₂.
       before-found _ e₂ (λ new e₃ e₄. rw (← e₄) (Infers.two p q (table-found rule e₃)))))

@@ -1,23 +1,24 @@
 -- A derivation and its written form: the written steps are given by the rules, and steps so given are the written form of a derivation.
-use Prim.Native.Nat.{ℕ, zero, suc, _+_, _-_, _<_, _≤_}
+use Prim.Native.Nat.{ℕ, zero, suc, _+_, _-_, _<_}
 use mathlib.Core.Bool.{Bool, true, false, not, cond, _&&_}
 use mathlib.Core.List.{List, [], _∷_, _++_, map}
-use mathlib.Core.Path.{_≡_, refl, sym, ap, subst, _∙_}
+use mathlib.Core.Path.{_≡_, refl, sym, ap, subst}
 use native.Mathlib.Omega.{arith}
 use borrow.Author.Tests.{lt-ltb, le-ltb}
 use lib.Dec.{T, eqb, eqb→eq, eqb-refl, ltb}
 use Rattle.logic.specs.declared.Rule.{Rule}
-use Rattle.logic.specs.Syntax.{Term, var, Terms, nil, Clause, Step}
-use Rattle.logic.specs.Terms.{count, entryOr}
+use Rattle.logic.specs.Syntax.{var, Terms, Clause, Step}
+use Rattle.logic.specs.Terms.{count}
 use Rattle.logic.specs.Each.{eachTerm, eachTerms, eachClause, declares, any, overTerm, overClause, allowedClause, occursIn, width}
 use Rattle.logic.specs.Fill.{Substitution, entries}
-use Rattle.logic.specs.Rules.{uses, Parent, Infers}
-use Rattle.logic.specs.Judge.{parentClause, parentA, parentB, parentsBelow, unusedZero, firstLength, listsFit, numbersRight, Given}
-use Rattle.logic.specs.Derivation.{Inference, stepOf, inferenceA, inferenceB, Apart, Follows, AllFollow, Listed, WrittenStep, WrittenSteps}
+use Rattle.logic.specs.Rules.{uses, filled}
+use Rattle.logic.specs.StepChecks.{parentClause, parentA, parentB, parentsBelow, unusedZero, firstLength, listsFit, numbersRight, Given}
+use Rattle.logic.specs.Derivation.{Inference, stepOf, inferenceA, inferenceB, Follows, AllFollow, AllOver, WrittenStep, WrittenSteps}
 use Rattle.logic.proofs.Both.{left, right, both}
 use Rattle.logic.proofs.Ground.{entry-each}
 use Rattle.logic.proofs.Entailment.{ListsOver, ClauseOver, AllGiven}
-use Rattle.logic.proofs.Agreeing.{with, Agree, infers-agree, variable-below}
+use Rattle.logic.proofs.Over.{Over, infers-over, fill-over, over-clause, over-each, over-allowed}
+use Rattle.logic.proofs.Agreeing.{with, infers-agree, variable-below}
 
 -- Equal numbers pass the test.
 same : (m n : ℕ) → m ≡ n → T (eqb m n)
@@ -73,7 +74,7 @@ merged-second ts us v =
 -- A variable of A is below the length that its list must have.
 occurs-below : (cs : List Clause) (rule : Rule) (n v : ℕ) → T (occursIn v (parentClause cs (uses rule .a) n)) →
     v < firstLength rule (parentClause cs (uses rule .a) n)
-unfolding firstLength parentClause occursIn
+unfolding firstLength parentClause occursIn eachClause
 occurs-below cs rule n v = go (uses rule .a)
   where
     go : (used : Bool) → T (occursIn v (parentClause cs used n)) → v < cond used (width (parentClause cs used n)) 1
@@ -100,7 +101,7 @@ merged-over table ts us w w′ v = go (ltb v (count ts))
     go true = entries-over table ts w v
     go false = entries-over table us w′ (v - count ts)
 
-module _ (table : List ℕ) (cs : List Clause) (s : Step) (g : Given cs s) (lists : ListsOver table s) (over : T (overClause table (s .claim))) where
+module _ (table : List ℕ) (cs : List Clause) (s : Step) (g : Given cs s) (lists : ListsOver table s) where
   counts : (count (s .first) ≡ firstLength (s .rule) (parentA cs s .clause)) × (count (s .second) ≡ width (parentB cs s .clause))
   unfolding numbersRight listsFit
   counts =
@@ -127,7 +128,6 @@ module _ (table : List ℕ) (cs : List Clause) (s : Step) (g : Given cs s) (list
       away = λ v w o o′ e. let h = below-first v o in omega arith;
     };
     over = merged-over table (s .first) (s .second) (lists .0) (lists .1);
-    clause-over = over;
     agreement = g .agreement;
     infers = infers-agree (parentA cs s .clause) (parentB cs s .clause) (entries (s .first)) (merged (s .first) (s .second)) (entries (s .second))
         (λ v. merged (s .first) (s .second) (v + count (s .first))) (λ v o. merged-first (s .first) (s .second) v (below-first v o))
@@ -144,30 +144,56 @@ module _ (table : List ℕ) (cs : List Clause) (s : Step) (g : Given cs s) (list
     reflexive = refl-entry;
   }
 
+-- What follows from clauses over the table is a clause over it.
+parent-over : (table : List ℕ) (cs : List Clause) (used : Bool) (n : ℕ) → AllOver table cs → T (overClause table (parentClause cs used n))
+unfolding AllOver overClause allowedClause eachClause parentClause
+parent-over table cs false n o = tt
+parent-over table [] true n o = tt
+parent-over table (c ∷ cs) true zero o = o .0
+parent-over table (c ∷ cs) true (suc n) o = parent-over table cs true n (o .1)
+
+filled-over : (table : List ℕ) (σ : Substitution) (c : Clause) → ((v : ℕ) → T (overTerm table (σ v))) → T (overClause table c) → Over any (declares table) (filled (with c σ))
+unfolding filled overTerm overClause
+filled-over table σ c h o =
+    let d = declares table in
+    let a = allowedClause c in
+    fill-over any any d σ (λ v t. h v) c (over-clause any d c (left a (eachClause any d c) o) (right a (eachClause any d c) o))
+
+pub follows-over : (table : List ℕ) (cs : List Clause) (n : Inference) → AllOver table cs → Follows table cs n → T (overClause table (n .clause))
+unfolding inferenceA inferenceB overClause overTerm
+follows-over table cs n o f =
+    let d = declares table in
+    let w = infers-over any d (inferenceA cs n) (inferenceB cs n) (f .infers)
+    (filled-over table (n .substitution) (parentClause cs (uses (n .rule) .a) (n .a)) (f .over) (parent-over table cs (uses (n .rule) .a) (n .a) o))
+    (filled-over table (λ v. n .substitution (n .rename v)) (parentClause cs (uses (n .rule) .b) (n .b)) (λ v. f .over (n .rename v)) (parent-over table cs (uses (n .rule) .b) (n .b) o))
+    (f .over 0) in
+    both (allowedClause (n .clause)) (eachClause any d (n .clause)) (over-allowed any d (n .clause) w) (over-each any d (n .clause) w)
+
+over-last : (table : List ℕ) (cs : List Clause) (c : Clause) → AllOver table cs → T (overClause table c) → AllOver table (cs ++ (c ∷ []))
+unfolding AllOver
+over-last table [] c o w = (w, tt)
+over-last table (d ∷ cs) c o w = (o .0, over-last table cs c (o .1) w)
+
 -- Steps in a row.
-pub all-written : (table : List ℕ) (cs : List Clause) (ns : List Inference) (ss : List Step) → AllFollow table cs ns → WrittenSteps table cs ns ss → AllGiven table cs ss
+pub all-written : (table : List ℕ) (cs : List Clause) (ns : List Inference) (ss : List Step) → AllOver table cs → AllFollow table cs ns → WrittenSteps table cs ns ss → AllGiven table cs ss
 unfolding AllFollow WrittenSteps AllGiven overClause stepOf
-all-written table cs [] [] f w = tt
-all-written table cs [] (s ∷ ss) f w = absurd w
-all-written table cs (n ∷ ns) [] f w = absurd w
-all-written table cs (n ∷ ns) (s ∷ ss) f w =
+all-written table cs [] [] o f w = tt
+all-written table cs [] (s ∷ ss) o f w = absurd w
+all-written table cs (n ∷ ns) [] o f w = absurd w
+all-written table cs (n ∷ ns) (s ∷ ss) o f w =
+    let k = follows-over table cs n o (f .0) in
     let e : n .clause ≡ s .claim = sym (ap (λ (t : Step). t .claim) (w .0 .step)) in (
       written-given table cs n s (f .0) (w .0),
       (w .0 .first .over, w .0 .second .over),
-      subst (ClauseOver table) e (right (allowedClause (n .clause)) (eachClause any (declares table) (n .clause)) (f .0 .clause-over)),
-      subst (λ (c : Clause). AllGiven table (cs ++ (c ∷ [])) ss) e (all-written table (cs ++ (n .clause ∷ [])) ns ss (f .1) (w .1)),
+      subst (ClauseOver table) e (right (allowedClause (n .clause)) (eachClause any (declares table) (n .clause)) k),
+      subst (λ (c : Clause). AllGiven table (cs ++ (c ∷ [])) ss) e (all-written table (cs ++ (n .clause ∷ [])) ns ss (over-last table cs (n .clause) o k) (f .1) (w .1)),
     )
 
--- Steps that the rules give, with claims that are clauses over the table, are a derivation's written steps.
-unfoldable pub ClaimsAllowed : List Step → Type 0
-ClaimsAllowed [] = Unit
-ClaimsAllowed (s ∷ ss) = T (allowedClause (s .claim)) × ClaimsAllowed ss
-
-pub all-given : (table : List ℕ) (cs : List Clause) (ss : List Step) → AllGiven table cs ss → ClaimsAllowed ss →
+-- Steps that the rules give are a derivation's written steps.
+pub all-given : (table : List ℕ) (cs : List Clause) (ss : List Step) → AllGiven table cs ss →
     AllFollow table cs (map inferenceOf ss) × WrittenSteps table cs (map inferenceOf ss) ss
-unfolding AllFollow WrittenSteps AllGiven ClaimsAllowed overClause inferenceOf
-all-given table cs [] g a = (tt, tt)
-all-given table cs (s ∷ ss) g a =
-    let over = both (allowedClause (s .claim)) (eachClause any (declares table) (s .claim)) (a .0) (g .2) in
-    let h = all-given table (cs ++ (s .claim ∷ [])) ss (g .3) (a .1) in
-    ((given-follows table cs s (g .0) (g .1) over, h .0), (given-written table cs s (g .0) (g .1) over, h .1))
+unfolding AllFollow WrittenSteps AllGiven inferenceOf
+all-given table cs [] g = (tt, tt)
+all-given table cs (s ∷ ss) g =
+    let h = all-given table (cs ++ (s .claim ∷ [])) ss (g .3) in
+    ((given-follows table cs s (g .0) (g .1), h .0), (given-written table cs s (g .0) (g .1), h .1))

@@ -1,17 +1,18 @@
--- Filling: a term stands in for each variable.
+-- Filling (R2, D2, H10): a term stands in for each variable.
 use Prim.Native.Nat.{ℕ}
-use mathlib.Core.List.{List, map}
+use mathlib.Core.List.{map}
 use Rattle.logic.specs.Syntax.{Term, var, app, Terms, nil, cons, Result, value, none, Atom, link, obj, method, Literal, lit, Clause}
 use Rattle.logic.specs.Terms.{entryOr}
 
--- A substitution gives the term for each variable.
+-- D2, "one substitution": it gives the term for each variable.
 abbrev pub Substitution : Type 0
 Substitution = ℕ → Term
 
--- "variable N of A becomes term N of the first list". Past the list's end, which check 8 rules out, it stays.
+-- R2: "variable N of A becomes term N of the first list". Past the list's end, which check 8 (V18) rules out, it stays.
 unfoldable pub entries : Terms → Substitution
 entries ts n = entryOr (var n) ts n
 
+-- R2, H10: a term, an atom, a literal, a clause with each variable replaced. The word none (T15) has no variable.
 unfoldable mutual
   pub fill : Substitution → Term → Term
   fill σ (var n) = σ n

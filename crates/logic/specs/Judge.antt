@@ -1,12 +1,11 @@
--- Checks 7 to 11 of document 01, "The verdict": each as a predicate, the rule table as a function, and their answer.
+-- Nothing in this file has to be believed: the rule table as a function, and checks 7 to 11 computed by it. That they are computed right is
+-- proved: `passed-exactly` and `failed-exactly` (proofs/Steps), over `infers→concludes` and `concludes→infers` (proofs/Table).
 use Prim.Native.Nat.{ℕ, zero, suc}
-use mathlib.Core.Bool.{Bool, true, false, cond, not, _&&_, _||_}
+use mathlib.Core.Bool.{Bool, cond}
 use mathlib.Core.List.{List, [], _∷_, _++_}
 use mathlib.Core.Logic.{inl, inr, ⊎-elim, ite}
 use mathlib.Core.Path.{_≡_}
-use lib.ListN.{length, getD}
-use lib.Dec.{T, eqb, ltb}
-use Rattle.logic.specs.declared.Sign.{Sign}
+use lib.Dec.{eqb}
 use Rattle.logic.specs.declared.Sign.the-variants.{Positive, Negative}
 use Rattle.logic.specs.declared.Link.{Link}
 use Rattle.logic.specs.declared.Link.the-variants.{Eq, Mem, Sub}
@@ -16,53 +15,12 @@ use Rattle.logic.specs.declared.Rule.the-variants.{Refl, Res, Fac, Par, 
 use Rattle.logic.specs.declared.Judged.{Judged}
 use Rattle.logic.specs.declared.Judged.the-variants.{Passed, NoParent, WrongNumber, Misshapen, Disagrees, WrongClaim}
 use Rattle.logic.specs.Syntax.{Term, Terms, nil, cons, Result, value, none, Atom, link, obj, method, Literal, lit, Clause, Step}
-use Rattle.logic.specs.Equality.{link?, terms?, atom?, clause?}
-use Rattle.logic.specs.Terms.{count}
-use Rattle.logic.specs.Each.{width}
-use Rattle.logic.specs.Fill.{Substitution, entries, fillClause}
+use Rattle.logic.specs.Equality.{link?, terms?, atom?, call?, clause?}
+use Rattle.logic.specs.Fill.{Substitution, fillClause}
 use Rattle.logic.specs.Occurrence.{Search, past, found, findLiteral}
-use Rattle.logic.specs.Rules.{Uses, uses, bare, Covers, Agreement, always, equal, covering, alike, Holds, signature, scalar, plus, one, Parent, filled, Infers}
-
--- Clause n of the text, where the rule uses it as a parent; an unused parent has no literal.
-unfoldable pub parentClause : List Clause → Bool → ℕ → Clause
-parentClause cs used n = cond used (getD cs n []) []
-
--- The parents of a step, each with its list.
-unfoldable pub parentA : List Clause → Step → Parent
-parentA cs s = record { clause = parentClause cs (uses (s .rule) .a) (s .a); image = entries (s .first) }
-
-unfoldable pub parentB : List Clause → Step → Parent
-parentB cs s = record { clause = parentClause cs (uses (s .rule) .b) (s .b); image = entries (s .second) }
-
--- "7. A used parent number isn't below the step's own." The step's own number is the number of clauses before it.
-unfoldable pub below : ℕ → Bool → ℕ → Bool
-below own used n = not used || ltb n own
-
-unfoldable pub parentsBelow : List Clause → Step → Bool
-parentsBelow cs s = below (length cs) (uses (s .rule) .a) (s .a) && below (length cs) (uses (s .rule) .b) (s .b)
-
--- "8. An unused number isn't 0, or a list has the wrong length."
-unfoldable pub zeroIfUnused : Bool → ℕ → Bool
-zeroIfUnused used n = used || eqb n 0
-
-unfoldable pub unusedZero : Step → Bool
-unusedZero s =
-    zeroIfUnused (uses (s .rule) .a) (s .a)
-    && (zeroIfUnused (uses (s .rule) .i) (s .i)
-    && (zeroIfUnused (uses (s .rule) .b) (s .b)
-    && (zeroIfUnused (uses (s .rule) .j) (s .j)
-    && zeroIfUnused (uses (s .rule) .k) (s .k))))
-
--- "A used parent's list has exactly its highest variable plus 1 terms (0 without variables); an unused one's has none, save for refl":
--- "refl | no parent; first list one term T", and refl alone uses no A.
-unfoldable pub firstLength : Rule → Clause → ℕ
-firstLength rule c = cond (uses rule .a) (width c) 1
-
-unfoldable pub listsFit : List Clause → Step → Bool
-listsFit cs s = eqb (count (s .first)) (firstLength (s .rule) (parentA cs s .clause)) && eqb (count (s .second)) (width (parentB cs s .clause))
-
-unfoldable pub numbersRight : List Clause → Step → Bool
-numbersRight cs s = unusedZero s && listsFit cs s
+use Rattle.logic.specs.Rules.{bare, Covers, Agreement, always, equal, covering, call, alike}
+use Rattle.logic.specs.Rules.{Holds, signature, scalar, plus, one, Parent, filled}
+use Rattle.logic.specs.StepChecks.{parentA, parentB, parentsBelow, numbersRight}
 
 -- The rule table as a function: a literal, number or result is not as the shape says, or the row's agreement and clause.
 pub data Conclusion : Type 0 where
@@ -117,7 +75,7 @@ onFound (found s l) f = f s l
 abbrev pub withNew : Agreement → Atom → Conclusion
 withNew g x = concludes g (plus x ∷ [])
 
--- "The claim, all of it filled, is the new literal if any, A's other literals, then B's other literals, in order."
+-- R21: "The claim, all of it filled, is the new literal, if there is one, then A's other literals, then B's other literals, in order."
 unfoldable pub before : Conclusion → Clause → Conclusion
 before misshapen c = misshapen
 before (concludes g new) c = concludes g (new ++ c)
@@ -154,7 +112,7 @@ onScalar l f = onPlus l (λ x. onMethod scalar x f)
 
 unfoldable pub conclude-sca : Literal → Literal → Conclusion
 conclude-sca l m =
-    onScalar l (λ a o n ts r. onScalar m (λ a′ o′ n′ ts′ r′. withNew (alike (method a o n ts none) (method a′ o′ n′ ts′ none)) (link Eq r r′)))
+    onScalar l (λ a o n ts r. onScalar m (λ a′ o′ n′ ts′ r′. withNew (alike (call a o n ts) (call a′ o′ n′ ts′)) (link Eq r r′)))
 
 -- The rows of the rules with two parents, par apart; the other rules have none here.
 unfoldable pub tableRow : ℕ → Rule → Literal → Literal → Conclusion
@@ -171,8 +129,8 @@ tableRow k Out l m = conclude-out l m
 tableRow k Sca l m = conclude-sca l m
 tableRow k Eli l m = misshapen
 
-unfoldable pub two : Parent → Parent → ℕ → ℕ → (Literal → Literal → Conclusion) → Conclusion
-two A B i j f = onAt i (filled A) (λ l r. onAt j (filled B) (λ m r′. before (f l m) (r ++ r′)))
+unfoldable pub conclude-two : Parent → Parent → ℕ → ℕ → (Literal → Literal → Conclusion) → Conclusion
+conclude-two A B i j f = onAt i (filled A) (λ l r. onAt j (filled B) (λ m r′. before (f l m) (r ++ r′)))
 
 -- par: the literal at I before filling.
 unfoldable pub conclude-par : Substitution → ℕ → Literal → Literal → Conclusion
@@ -189,48 +147,22 @@ conclude-eli l r = onMinus l (λ x. onObj x (λ p. concludes always r))
 
 unfoldable pub conclude : Parent → Parent → ℕ → ℕ → ℕ → Rule → Conclusion
 conclude A B i j k Refl = withNew always (link Sub (A .image 0) (A .image 0))
-conclude A B i j k Res = two A B i j (tableRow k Res)
+conclude A B i j k Res = conclude-two A B i j (tableRow k Res)
 conclude A B i j k Fac = onAt i (filled A) (λ l r. onAt j (filled A) (conclude-fac i j l r))
-conclude A B i j k Par = onAt i (A .clause) (λ l r. onAt j (filled B) (λ m r′. before (conclude-par (A .image) k l m) (fillClause (A .image) r ++ r′)))
-conclude A B i j k Acy = two A B i j (tableRow k Acy)
-conclude A B i j k Tra = two A B i j (tableRow k Tra)
-conclude A B i j k Inc = two A B i j (tableRow k Inc)
-conclude A B i j k Inh = two A B i j (tableRow k Inh)
-conclude A B i j k Inp = two A B i j (tableRow k Inp)
-conclude A B i j k Out = two A B i j (tableRow k Out)
-conclude A B i j k Sca = two A B i j (tableRow k Sca)
+conclude A B i j k Par =
+    onAt i (A .clause) (λ l r. onAt j (filled B) (λ m r′. before (conclude-par (A .image) k l m) (fillClause (A .image) r ++ r′)))
+conclude A B i j k Acy = conclude-two A B i j (tableRow k Acy)
+conclude A B i j k Tra = conclude-two A B i j (tableRow k Tra)
+conclude A B i j k Inc = conclude-two A B i j (tableRow k Inc)
+conclude A B i j k Inh = conclude-two A B i j (tableRow k Inh)
+conclude A B i j k Inp = conclude-two A B i j (tableRow k Inp)
+conclude A B i j k Out = conclude-two A B i j (tableRow k Out)
+conclude A B i j k Sca = conclude-two A B i j (tableRow k Sca)
 conclude A B i j k Eli = onAt i (filled A) conclude-eli
 
 -- What the rule table says of a step.
 unfoldable pub conclusion : List Clause → Step → Conclusion
 conclusion cs s = conclude (parentA cs s) (parentB cs s) (s .i) (s .j) (s .k) (s .rule)
-
-abbrev pub StepInfers : List Clause → Step → Agreement → Clause → Type 0
-StepInfers cs s g c = Infers (parentA cs s) (parentB cs s) (s .i) (s .j) (s .k) (s .rule) g c
-
--- "9. A position, sign, atom kind, result, K or pair I, J isn't as the rule's shape says." Passed: the table has a row for them.
-unfoldable pub Shaped : List Clause → Step → Type 0
-Shaped cs s = (g : Agreement) × (c : Clause) × StepInfers cs s g c
-
--- "10. The agreement fails." Passed: the row's agreement holds.
-unfoldable pub Agrees : List Clause → Step → Type 0
-Agrees cs s = (g : Agreement) (c : Clause) → StepInfers cs s g c → Holds g
-
--- "11. The claim isn't the rule's." Passed: the row's clause is the claim.
-unfoldable pub Claims : List Clause → Step → Type 0
-Claims cs s = (g : Agreement) (c : Clause) → StepInfers cs s g c → c ≡ s .claim
-
--- Checks 7 to 11, in order.
-unfoldable pub stepChecks : List Clause → Step → List (Type 0)
-stepChecks cs s = T (parentsBelow cs s) ∷ (T (numbersRight cs s) ∷ (Shaped cs s ∷ (Agrees cs s ∷ (Claims cs s ∷ []))))
-
--- "document 01's rules give its claim from its parents by its numbers under its two lists"
-pub record Given (cs : List Clause) (s : Step) : Type 0 where
-  pub parents : T (parentsBelow cs s)
-  pub numbers : T (numbersRight cs s)
-  pub agreement : Agreement
-  pub infers : StepInfers cs s agreement (s .claim)
-  pub holds : Holds agreement
 
 -- Whether an agreement holds is decided.
 unfoldable pub covers? : (x y : Atom) → Dec (x ≡ y) → Dec (bare x ≡ y) → Dec (Covers x y)
@@ -244,7 +176,7 @@ unfolding Holds
 holds? always = yes tt
 holds? (equal ts us) = terms? ts us
 holds? (covering x y) = covers? x y (atom? x y) (atom? (bare x) y)
-holds? (alike x y) = atom? x y
+holds? (alike x y) = call? x y
 
 -- Checks 7 to 11 of a step, in order.
 unfoldable pub judgeConclusion : Conclusion → Clause → Judged
@@ -253,12 +185,3 @@ judgeConclusion (concludes g c) claim = ite (holds? g) (ite (clause? c claim) Pa
 
 unfoldable pub judge : List Clause → Step → Judged
 judge cs s = cond (parentsBelow cs s) (cond (numbersRight cs s) (judgeConclusion (conclusion cs s) (s .claim)) WrongNumber) NoParent
-
--- The number in document 01 of the check that fails; 0 where none does.
-unfoldable pub judgedNumber : Judged → ℕ
-judgedNumber Passed = 0
-judgedNumber NoParent = 7
-judgedNumber WrongNumber = 8
-judgedNumber Misshapen = 9
-judgedNumber Disagrees = 10
-judgedNumber WrongClaim = 11

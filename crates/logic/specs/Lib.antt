@@ -1,12 +1,13 @@
--- The logic of document 01, in reading order.
+-- The logic of docs/TEXT-FORM.md, in reading order. Each definition names the statements that it states by their numbers there.
 pub mod Syntax
-pub mod Equality
 pub mod Terms
 pub mod Each
 pub mod Fill
 pub mod Occurrence
-pub mod Checks
 pub mod Rules
-pub mod Judge
+pub mod StepChecks
 pub mod Structure
 pub mod Derivation
+-- What is computed: nothing in these has to be believed.
+pub mod Equality
+pub mod Judge

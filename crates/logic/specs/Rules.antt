@@ -1,23 +1,18 @@
--- The two tables of document 01, "The rules": which numbers each rule uses, and the rule table.
+-- The two tables of TEXT-FORM, "The rules": which numbers each rule uses (R6), and the rule table (R8 to R19).
 use Prim.Native.Nat.{ℕ, zero, suc}
 use mathlib.Core.Bool.{Bool, true, false}
-use mathlib.Core.List.{List, [], _∷_, _++_}
+use mathlib.Core.List.{[], _∷_, _++_}
 use mathlib.Core.Logic.{_⊎_}
 use mathlib.Core.Path.{_≡_}
 use lib.Dec.{T}
-use Rattle.logic.specs.declared.Sign.{Sign}
-use Rattle.logic.specs.declared.Sign.the-variants.{Positive, Negative}
-use Rattle.logic.specs.declared.Link.{Link}
-use Rattle.logic.specs.declared.Link.the-variants.{Eq, Mem, Sub}
-use Rattle.logic.specs.declared.Arrow.{Arrow}
-use Rattle.logic.specs.declared.Arrow.the-variants.{Sv, Si, Mv, Mi, St, Mt}
-use Rattle.logic.specs.declared.Rule.{Rule}
-use Rattle.logic.specs.declared.Rule.the-variants.{Refl, Res, Fac, Par, Acy, Tra, Inc, Inh, Inp, Out, Sca, Eli}
-use Rattle.logic.specs.Syntax.{Term, Terms, nil, cons, Result, value, none, Atom, link, obj, method, Literal, lit, Clause, mayBeNone}
+use Rattle.logic.specs.Syntax.{Positive, Negative, Eq, Mem, Sub, Arrow, Sv, Si, Mv, Mi, St, Mt}
+use Rattle.logic.specs.Syntax.{Rule, Refl, Res, Fac, Par, Acy, Tra, Inc, Inh, Inp, Out, Sca, Eli}
+use Rattle.logic.specs.Syntax.{Term, Terms, nil, cons, Result, value, none}
+use Rattle.logic.specs.Syntax.{Atom, link, obj, method, Literal, lit, Clause, mayBeNone}
 use Rattle.logic.specs.Fill.{Substitution, fillClause}
 use Rattle.logic.specs.Occurrence.{found, findLiteral}
 
--- "a second table says which numbers each of the twelve rules uses"
+-- R6: "Which numbers each rule uses". A row has a flag for each of A, I, B, J, K.
 pub record Uses : Type 0 where
   pub a : Bool
   pub i : Bool
@@ -42,7 +37,7 @@ uses Out = row true true true true false
 uses Sca = row true true true true false
 uses Eli = row true true false false false
 
--- An atom with none in place of a term result, where it may have none.
+-- R4, H8: an atom with none in place of a term result, where it may have none (T15).
 unfoldable pub bareResult : Bool → Result → Result
 bareResult true r = none
 bareResult false r = r
@@ -52,17 +47,22 @@ bare (link l t u) = link l t u
 bare (obj t) = obj t
 bare (method a o m ts r) = method a o m ts (bareResult (mayBeNone a) r)
 
--- "X *covers* Y if they are equal, or Y is X with none in place of a term result."
+-- R4: "X *covers* Y if they are equal, or if Y is X with none in place of a term result."
 unfoldable pub Covers : Atom → Atom → Type 0
 Covers x y = (x ≡ y) ⊎ (bare x ≡ y)
 
--- The third column, "agreement, filled": an empty cell, terms that are equal, an atom that covers another,
--- or two arrow atoms alike but for their results.
+-- R18: an arrow atom but for its result: "arrow, argument count, object, method, arguments".
+pub data Call : Type 0 where
+  call : Arrow → Term → Term → Terms → Call
+  deriving Discrete as Call-discrete
+
+-- R8 to R19, the column "agreement, filled": an empty cell, terms that are equal, an atom that covers another,
+-- or (R18) "same arrow, argument count, object, method, arguments".
 pub data Agreement : Type 0 where
   always : Agreement
   equal : Terms → Terms → Agreement
   covering : Atom → Atom → Agreement
-  alike : Atom → Atom → Agreement
+  alike : Call → Call → Agreement
 
 unfoldable pub Holds : Agreement → Type 0
 Holds always = Unit
@@ -70,7 +70,7 @@ Holds (equal ts us) = ts ≡ us
 Holds (covering x y) = Covers x y
 Holds (alike x y) = x ≡ y
 
--- "st or mt", and "sv or si".
+-- R15 to R17, H6: "st or mt". R18, H7: "sv or si".
 unfoldable pub signature : Arrow → Bool
 signature Sv = false
 signature Si = false
@@ -87,11 +87,12 @@ scalar Mi = false
 scalar St = false
 scalar Mt = false
 
--- "argument K": term q stands at place k of ts, and with s in its place they are us.
+-- R16, "argument K", and H6, "one argument": term q stands at place k of ts, counted from 0 (T17), and with s in its place they are us.
 pub data Placed (s : Term) : ℕ → Term → Terms → Terms → Type 0 where
   here : {q : Term} {ts : Terms} → Placed s zero q (cons q ts) (cons s ts)
   there : {k : ℕ} {q t : Term} {ts us : Terms} → Placed s k q ts us → Placed s (suc k) q (cons t ts) (cons t us)
 
+-- T16: "+" and "-" of the rule table's literals. R12 to R17: terms that are equal, as lists.
 abbrev pub plus : Atom → Literal
 plus x = lit Positive x
 
@@ -101,7 +102,7 @@ minus x = lit Negative x
 abbrev pub one : Term → Terms
 one t = cons t nil
 
--- The rule table for rules with two parents, par apart: the literal at I, the literal at J, both filled, the agreement,
+-- R9, R12 to R18: the rule table for rules with two parents, par apart: the literal at I, the literal at J, both filled, the agreement,
 -- and the new literal if any.
 pub data Row (k : ℕ) : Rule → Literal → Literal → Agreement → Clause → Type 0 where
   res : {x y : Atom} → Row k Res (minus x) (plus y) (covering y x) []
@@ -116,9 +117,10 @@ pub data Row (k : ℕ) : Rule → Literal → Literal → Agreement → Clause �
   out : {a : Arrow} {o m r r′ s : Term} {ts : Terms} → T (signature a) →
       Row k Out (plus (method a o m ts (value r))) (plus (link Sub r′ s)) (equal (one r) (one r′)) (plus (method a o m ts (value s)) ∷ [])
   sca : {a b : Arrow} {o m r o′ m′ r′ : Term} {ts ts′ : Terms} → T (scalar a) → T (scalar b) →
-      Row k Sca (plus (method a o m ts (value r))) (plus (method b o′ m′ ts′ (value r′))) (alike (method a o m ts none) (method b o′ m′ ts′ none)) (plus (link Eq r r′) ∷ [])
+      Row k Sca (plus (method a o m ts (value r))) (plus (method b o′ m′ ts′ (value r′)))
+      (alike (call a o m ts) (call b o′ m′ ts′)) (plus (link Eq r r′) ∷ [])
 
--- A parent with the terms for its variables.
+-- R1, R2: a parent with the terms for its variables.
 pub record Parent : Type 0 where
   pub clause : Clause
   pub image : Substitution
@@ -126,18 +128,21 @@ pub record Parent : Type 0 where
 unfoldable pub filled : Parent → Clause
 filled p = fillClause (p .image) (p .clause)
 
--- "\"At I\" is in A, \"at J\" in B": literal l stands at position i of c, and r is c's other literals.
+-- R5: "At I" is a position in A, "at J" one in B, counted from 0 (T17): literal l stands at position i of c, and r is c's other literals.
 pub data At : ℕ → Literal → Clause → Clause → Type 0 where
   here : {l : Literal} {c : Clause} → At zero l (l ∷ c) c
   there : {i : ℕ} {l m : Literal} {c r : Clause} → At i l c r → At (suc i) l (m ∷ c) (m ∷ r)
 
--- The rule table: from A and B by the numbers i, j, k a rule gives a clause if the agreement holds.
--- "The claim, all of it filled, is the new literal if any, A's other literals, then B's other literals, in order."
--- "For fac it is A without literal J (positive) or without literal I (negative)." refl's T is the image of variable 0.
+-- R8 to R19, the rule table: from A and B by the numbers i, j, k a rule gives a clause if the agreement holds.
+-- R21: "The claim, all of it filled, is the new literal, if there is one, then A's other literals, then B's other literals, in order."
+-- R22: "For fac the claim is A without the literal at J where the two are positive, and without the literal at I where they are
+-- negative." R23: "res and eli drop the literals that they name." R8: refl's T is the image of variable 0.
 pub data Infers (A B : Parent) (i j k : ℕ) : Rule → Agreement → Clause → Type 0 where
   refl : Infers A B i j k Refl always (plus (link Sub (A .image 0) (A .image 0)) ∷ [])
-  fac⁺ : {x y : Atom} {r r′ : Clause} → At i (plus x) (filled A) r → At j (plus y) (filled A) r′ → (i ≡ j → ⊥) → Infers A B i j k Fac (covering y x) r′
-  fac⁻ : {x y : Atom} {r r′ : Clause} → At i (minus x) (filled A) r → At j (minus y) (filled A) r′ → (i ≡ j → ⊥) → Infers A B i j k Fac (covering y x) r
+  fac⁺ : {x y : Atom} {r r′ : Clause} → At i (plus x) (filled A) r →
+      At j (plus y) (filled A) r′ → (i ≡ j → ⊥) → Infers A B i j k Fac (covering y x) r′
+  fac⁻ : {x y : Atom} {r r′ : Clause} → At i (minus x) (filled A) r →
+      At j (minus y) (filled A) r′ → (i ≡ j → ⊥) → Infers A B i j k Fac (covering y x) r
   par : {l l′ : Literal} {s s′ u : Term} {r r′ : Clause} →
       At i l (A .clause) r →
       At j (plus (link Eq s′ u)) (filled B) r′ →

@@ -1,14 +1,18 @@
--- The syntax of document 01, "The text": terms, atoms, literals, clauses and the three kinds of line, with no bytes.
+-- The syntax of TEXT-FORM, "The text" (T6 to T17): terms, atoms, literals, clauses and the three kinds of line, with no bytes.
+-- The words of signs (T16), links (T13), arrows (T14) and rules (T10) are the enums of src/lib.rt.
 use Prim.Native.Nat.{ℕ}
-use mathlib.Core.List.{List, [], _∷_}
+use mathlib.Core.List.{List}
 use mathlib.Core.Bool.{Bool, true, false}
-use Rattle.logic.specs.declared.Sign.{Sign}
-use Rattle.logic.specs.declared.Link.{Link}
-use Rattle.logic.specs.declared.Arrow.{Arrow}
-use Rattle.logic.specs.declared.Arrow.the-variants.{Sv, Si, Mv, Mi, St, Mt}
-use Rattle.logic.specs.declared.Rule.{Rule}
+pub use Rattle.logic.specs.declared.Sign.{Sign}
+pub use Rattle.logic.specs.declared.Sign.the-variants.{Positive, Negative}
+pub use Rattle.logic.specs.declared.Link.{Link}
+pub use Rattle.logic.specs.declared.Link.the-variants.{Eq, Mem, Sub}
+pub use Rattle.logic.specs.declared.Arrow.{Arrow}
+pub use Rattle.logic.specs.declared.Arrow.the-variants.{Sv, Si, Mv, Mi, St, Mt}
+pub use Rattle.logic.specs.declared.Rule.{Rule}
+pub use Rattle.logic.specs.declared.Rule.the-variants.{Refl, Res, Fac, Par, Acy, Tra, Inc, Inh, Inp, Out, Sca, Eli}
 
--- "A term is `(v N)`, a variable, or `(f N TERM ...)`, symbol N applied."
+-- T11: "`(v N)` is variable N. `(f N TERM ...)` is symbol N applied to the terms."
 mutual
   pub data Term : Type 0 where
     var : ℕ → Term
@@ -20,13 +24,13 @@ mutual
     cons : Term → Terms → Terms
     deriving Discrete as Terms-discrete
 
--- "R is a term; for mv, mi, st, mt it may be the word `none`, the empty set or empty signature."
+-- T15: "The result R is a term. With mv, mi, st and mt it may be the word `none` instead: the empty set, or the empty signature."
 pub data Result : Type 0 where
   value : Term → Result
   none : Result
   deriving Discrete as Result-discrete
 
--- "for mv, mi, st, mt it may be the word `none`"
+-- T15: "With mv, mi, st and mt it may be the word `none` instead".
 unfoldable pub mayBeNone : Arrow → Bool
 mayBeNone Sv = false
 mayBeNone Si = false
@@ -35,23 +39,24 @@ mayBeNone Mi = true
 mayBeNone St = true
 mayBeNone Mt = true
 
--- "ATOM: `(eq T U)` equality; `(mem T U)` T : U; `(sub T U)` T :: U; `(obj T)` T[]; `(ARROW O M (T ...) R)`"
+-- T13: "`(eq T U)` is equality; `(mem T U)` is T : U; `(sub T U)` is T :: U; `(obj T)` is T[]; `(ARROW O M (T ...) R)` has the object O,
+-- the method M, the arguments T ..., perhaps none at all, and the result R."
 pub data Atom : Type 0 where
   link : Link → Term → Term → Atom
   obj : Term → Atom
   method : Arrow → Term → Term → Terms → Result → Atom
   deriving Discrete as Atom-discrete
 
--- "LIT is `(+ ATOM)` or `(- ATOM)`."
+-- T16: "`(+ ATOM)` is a positive literal, `(- ATOM)` a negative one."
 pub data Literal : Type 0 where
   lit : Sign → Atom → Literal
   deriving Discrete as Literal-discrete
 
--- "CLAUSE is `(or LIT ...)`, perhaps `(or)`."
+-- T16: "`(or LIT ...)` is the clause of these literals, `(or)` the empty one."
 abbrev pub Clause : Type 0
 Clause = List Literal
 
--- "`(by RULE A I B J K LET LET CLAUSE)`: a step"
+-- T9: "`(by RULE A I B J K LET LET CLAUSE)` is a step."
 pub record Step : Type 0 where
   pub rule : Rule
   pub a : ℕ
@@ -63,7 +68,7 @@ pub record Step : Type 0 where
   pub second : Terms
   pub claim : Clause
 
--- "One form a line": `(sym K)`, `(in CLAUSE)`, `(by ...)`.
+-- T7, T8, T9: `(sym K)`, `(in CLAUSE)`, `(by ...)`. T1: a line "is one form".
 pub data Line : Type 0 where
   sym : ℕ → Line
   input : Clause → Line

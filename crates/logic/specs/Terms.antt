@@ -1,34 +1,36 @@
--- Lists of terms, and the terms of an atom from left to right.
+-- Lists of terms (T11, T13, R2), and the terms of an atom from left to right (T13, R20).
 use Prim.Native.Nat.{ℕ, zero, suc}
 use Rattle.logic.specs.Syntax.{Term, app, Terms, nil, cons, Result, value, none, Atom, link, obj, method}
 
--- How many terms.
+-- How many terms: of a symbol (T7), of a method (T18), of a list (R3).
 unfoldable pub count : Terms → ℕ
 count nil = zero
 count (cons t ts) = suc (count ts)
 
--- Term n of a list, or d past its end.
+-- R2: "term N of the .. list", or d past its end.
 unfoldable pub entryOr : Term → Terms → ℕ → Term
 entryOr d nil n = d
 entryOr d (cons t ts) zero = t
 entryOr d (cons t ts) (suc n) = entryOr d ts n
 
--- One list behind another.
+-- R20, "from left to right": one list behind another.
 unfoldable pub join : Terms → Terms → Terms
 join nil us = us
 join (cons t ts) us = cons t (join ts us)
 
+-- T15: a result is a term, or none, which is no term.
 unfoldable pub resultTerms : Result → Terms
 resultTerms (value t) = cons t nil
 resultTerms none = nil
 
--- `(ARROW O M (T ...) R)` "with object O, method M, arguments, result R": the terms of an atom, left to right.
+-- T13: "`(ARROW O M (T ...) R)` has the object O, the method M, the arguments T ..., .. and the result R": the terms of an atom,
+-- "from left to right" (R20).
 unfoldable pub termsOf : Atom → Terms
 termsOf (link l t u) = cons t (cons u nil)
 termsOf (obj t) = cons t nil
 termsOf (method a o m ts r) = cons o (cons m (join ts (resultTerms r)))
 
--- The first n terms, and the terms behind those.
+-- The first n terms, and the terms behind those: the arguments, and the result after them (T13).
 unfoldable pub front : ℕ → Terms → Terms
 front zero ts = nil
 front (suc n) nil = nil
@@ -39,16 +41,18 @@ rest zero ts = ts
 rest (suc n) nil = nil
 rest (suc n) (cons t ts) = rest n ts
 
--- Term n of a list that is long enough.
+-- Term n, counted from 0 (T17), of a list that is long enough.
 unfoldable pub nth : Terms → ℕ → Term
 nth us n = entryOr (app 0 nil) us n
 
+-- T15: a result with another term in place of its own; none stays.
 unfoldable pub withResult : Result → Terms → Result
 withResult (value t) us = value (nth us 0)
 withResult none us = none
 
--- An atom with the terms us in place of its own, left to right; us has as many.
+-- T13, R11: an atom with the terms us in place of its own, left to right; us has as many.
 unfoldable pub withTerms : Atom → Terms → Atom
 withTerms (link l t u) us = link l (nth us 0) (nth us 1)
 withTerms (obj t) us = obj (nth us 0)
-withTerms (method a o m ts r) us = method a (nth us 0) (nth us 1) (front (count ts) (rest 2 us)) (withResult r (rest (count ts) (rest 2 us)))
+withTerms (method a o m ts r) us =
+    method a (nth us 0) (nth us 1) (front (count ts) (rest 2 us)) (withResult r (rest (count ts) (rest 2 us)))

@@ -20,7 +20,7 @@ use Rattle.text.specs.Heads.{kindNumber, head}
 use Rattle.text.proofs.Positions.{Tail, strip-tail, skip-tail, landed}
 use Rattle.text.proofs.Nesting.{skip-term, skip-arguments}
 use Rattle.text.proofs.Heads.{afterHead, head-of, head-other, plus-of, plus-other}
-use Rattle.parts.specs.Shapes.{stripAt, skipAt, nextAt, positiveAt, firstAt, orElse, ifPlace, resultAt, objectAt}
+use Rattle.parts.specs.Shapes.{stripAt, skipAt, nextAt, positiveAt, firstAt, orPlace, ifPlace, resultAt, objectAt}
 
 -- Within p, and from there on these bytes.
 pub record Stands (p : List ℕ) (at : ℕ) (bs : List ℕ) : Type 0 where
@@ -88,12 +88,12 @@ module _ (p : List ℕ) where
   head-past n x rest h e s = strip-past (head n) s (head-other n x rest h e)
 
   -- A place that is one, and one that is not.
-  pub or-else-here : {x : ℕ} (y : ℕ) → x ≤ length p → orElse p x y ≡ x
-  unfolding orElse
+  pub or-else-here : {x : ℕ} (y : ℕ) → x ≤ length p → orPlace p x y ≡ x
+  unfolding orPlace
   or-else-here {x} y h = rw (le-leb x (length p) h)
 
-  pub or-else-past : (x y : ℕ) → x ≡ length p + 1 → orElse p x y ≡ y
-  unfolding orElse
+  pub or-else-past : (x y : ℕ) → x ≡ length p + 1 → orPlace p x y ≡ y
+  unfolding orPlace
   or-else-past x y e = rw (lt-leb x (length p) (omega arith))
 
   pub if-place-here : (x y : ℕ) → x ≤ length p → ifPlace p x y ≡ y
@@ -123,7 +123,7 @@ module _ (p : List ℕ) where
 
   -- An atom with one of two heads.
   abbrev pub inner : ℕ → ℕ → ℕ → ℕ
-  inner n m at = orElse p (stripAt p (head n) at) (stripAt p (head m) at)
+  inner n m at = orPlace p (stripAt p (head n) at) (stripAt p (head m) at)
 
   pub either-stands : {at : ℕ} (n m : ℕ) (x : Atom) (rest : List ℕ) → n < 10 → (n ≡ kindNumber x) ⊎ (m ≡ kindNumber x) → Stands p at (putAtom x rest) → Stands p (inner n m at) (afterHead x rest)
   either-stands {at} n m x rest h (inl e) s =

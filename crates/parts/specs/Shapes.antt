@@ -1,4 +1,5 @@
--- Places in the bytes of a literal: "a position, sign, atom kind, result, K". A place past the end says that it isn't so.
+-- Nothing here is to be believed: `judge-meets` (crates/rules/proofs/JudgeMeets) says what it gives on written clauses.
+-- Places in the bytes of a literal: "a position, sign, kind of atom, result, K" (V19). A place past the end says that it isn't so.
 use Prim.Native.Nat.{ℕ, _+_}
 use mathlib.Core.Bool.{Bool, cond, not, _&&_, _||_}
 use mathlib.Core.List.{List}
@@ -22,7 +23,7 @@ nextAt p at = stripAt p (bytes " ") (skipAt p at)
 unfoldable pub argumentAt : List ℕ → ℕ → ℕ → ℕ
 argumentAt p at k = endOf p (toArgument k (drop at p))
 
--- "Positions are counted from 0": the place of literal n of the clause that p begins with.
+-- T17, "Positions in a clause .. are numbered from 0": the place of literal n of the clause that p begins with.
 unfoldable pub placeAt : List ℕ → ℕ → ℕ
 placeAt p n = endOf p (toItem n (drop (stripAt p (bytes "(or") 0) p))
 
@@ -38,8 +39,8 @@ unfoldable pub firstAt : List ℕ → List ℕ → ℕ → ℕ
 firstAt p head at = stripAt p head (positiveAt p at)
 
 -- The first place if it is one, and else the second.
-unfoldable pub orElse : List ℕ → ℕ → ℕ → ℕ
-orElse p x y = cond (leb x (length p)) x y
+unfoldable pub orPlace : List ℕ → ℕ → ℕ → ℕ
+orPlace p x y = cond (leb x (length p)) x y
 
 -- The second place if the first is one.
 unfoldable pub ifPlace : List ℕ → ℕ → ℕ → ℕ
@@ -52,7 +53,7 @@ resultAt p o = nextAt p (nextAt p (nextAt p o))
 -- The object of a positive arrow atom with one of two heads and a term result.
 unfoldable pub objectAt : List ℕ → List ℕ → List ℕ → ℕ → ℕ
 objectAt p v w at =
-    let o = orElse p (stripAt p v (positiveAt p at)) (stripAt p w (positiveAt p at)) in
+    let o = orPlace p (stripAt p v (positiveAt p at)) (stripAt p w (positiveAt p at)) in
     ifPlace p (stripAt p (bytes "(") (resultAt p o)) o
 
 -- The places of the entries of the list that begins at `at`.
@@ -70,7 +71,7 @@ sameSignAt p i q j =
 
 -- The atom of a literal of either sign.
 unfoldable pub atomAt : List ℕ → ℕ → ℕ
-atomAt p i = orElse p (positiveAt p i) (negativeAt p i)
+atomAt p i = orPlace p (positiveAt p i) (negativeAt p i)
 
 -- Two tests with one answer.
 abbrev pub equalTests : Bool → Bool → Bool

@@ -10,13 +10,15 @@ ghost use mathlib.Core.Path.{_≡_};
 ghost use mathlib.Core.Bool.{_&&_, _||_};
 ghost use Rattle.text.specs.Heads.{head, linkKind};
 ghost use Rattle.text.specs.Words.{bytes};
-ghost use Rattle.parts.specs.Shapes.{stripAt, nextAt, argumentAt, placeAt, positiveAt, negativeAt, firstAt, orElse, ifPlace, resultAt, objectAt, listAt};
+ghost use Rattle.parts.specs.Shapes.{stripAt, nextAt, argumentAt, placeAt, positiveAt, negativeAt, firstAt};
+ghost use Rattle.parts.specs.Shapes.{orPlace, ifPlace, resultAt, objectAt, listAt};
 ghost use Rattle.parts.specs.Shapes.{within as withinAt};
 ghost use Rattle.parts.specs.Shapes.{sameSignAt, atomAt, sameArrowAt, equalTests};
 
 // A place of the clause.
 pub fn within(clause: &[u8], at: usize) -> bool
     ensures { λ r. ⌜ r ≡ withinAt (now (clause .entry)) at ⌝ }
+    ensures { λ _. ⌜ now (clause .exit) ≡ now (clause .entry) ⌝ }
 {
     at <= clause.len()
 }
@@ -42,6 +44,7 @@ fn equal(x: bool, y: bool) -> bool
 // Literal n of the clause.
 pub fn literal(clause: &[u8], n: usize) -> usize
     ensures { λ r. ⌜ r ≡ placeAt (now (clause .entry)) n ⌝ }
+    ensures { λ _. ⌜ now (clause .exit) ≡ now (clause .entry) ⌝ }
 {
     item(clause, word(clause, 0, b"(or"), n)
 }
@@ -49,6 +52,7 @@ pub fn literal(clause: &[u8], n: usize) -> usize
 // The item after the one at `at`.
 pub fn next(clause: &[u8], at: usize) -> usize
     ensures { λ r. ⌜ r ≡ nextAt (now (clause .entry)) at ⌝ }
+    ensures { λ _. ⌜ now (clause .exit) ≡ now (clause .entry) ⌝ }
 {
     word(clause, skip(clause, at), b" ")
 }
@@ -56,6 +60,7 @@ pub fn next(clause: &[u8], at: usize) -> usize
 // The atom of a positive literal.
 pub fn positive(clause: &[u8], at: usize) -> usize
     ensures { λ r. ⌜ r ≡ positiveAt (now (clause .entry)) at ⌝ }
+    ensures { λ _. ⌜ now (clause .exit) ≡ now (clause .entry) ⌝ }
 {
     word(clause, at, b"(+ ")
 }
@@ -63,12 +68,13 @@ pub fn positive(clause: &[u8], at: usize) -> usize
 // The atom of a negative literal.
 pub fn negative(clause: &[u8], at: usize) -> usize
     ensures { λ r. ⌜ r ≡ negativeAt (now (clause .entry)) at ⌝ }
+    ensures { λ _. ⌜ now (clause .exit) ≡ now (clause .entry) ⌝ }
 {
     word(clause, at, b"(- ")
 }
 
 fn or_else(clause: &[u8], x: usize, y: usize) -> usize
-    ensures { λ r. ⌜ r ≡ orElse (now (clause .entry)) x y ⌝ }
+    ensures { λ r. ⌜ r ≡ orPlace (now (clause .entry)) x y ⌝ }
 {
     if x <= clause.len() { x } else { y }
 }
@@ -86,6 +92,7 @@ fn if_place(clause: &[u8], x: usize, y: usize) -> usize
 // The atom of a literal of either sign.
 pub fn atom(clause: &[u8], at: usize) -> usize
     ensures { λ r. ⌜ r ≡ atomAt (now (clause .entry)) at ⌝ }
+    ensures { λ _. ⌜ now (clause .exit) ≡ now (clause .entry) ⌝ }
 {
     or_else(clause, positive(clause, at), negative(clause, at))
 }
@@ -93,6 +100,7 @@ pub fn atom(clause: &[u8], at: usize) -> usize
 // The literals at x of a and at y of b have one sign.
 pub fn same_sign(a: &[u8], x: usize, b: &[u8], y: usize) -> bool
     ensures { λ r. ⌜ r ≡ sameSignAt (now (a .entry)) x (now (b .entry)) y ⌝ }
+    ensures { λ _. ⌜ (now (a .exit) ≡ now (a .entry)) × (now (b .exit) ≡ now (b .entry)) ⌝ }
 {
     let plus = both(within(a, positive(a, x)), within(b, positive(b, y)));
     let minus = both(within(a, negative(a, x)), within(b, negative(b, y)));
@@ -109,6 +117,7 @@ fn first(clause: &[u8], head: &[u8], at: usize) -> usize
 // The first term of a positive eq, mem or sub.
 pub fn link(clause: &[u8], kind: Link, at: usize) -> usize
     ensures { λ r. ⌜ r ≡ firstAt (now (clause .entry)) (head (linkKind kind)) at ⌝ }
+    ensures { λ _. ⌜ now (clause .exit) ≡ now (clause .entry) ⌝ }
 {
     match kind {
         Link::Eq => first(clause, b"(eq ", at),
@@ -120,6 +129,7 @@ pub fn link(clause: &[u8], kind: Link, at: usize) -> usize
 // The term of a negative obj.
 pub fn denied(clause: &[u8], at: usize) -> usize
     ensures { λ r. ⌜ r ≡ stripAt (now (clause .entry)) (bytes "(- (obj ") at ⌝ }
+    ensures { λ _. ⌜ now (clause .exit) ≡ now (clause .entry) ⌝ }
 {
     word(clause, at, b"(- (obj ")
 }
@@ -127,6 +137,7 @@ pub fn denied(clause: &[u8], at: usize) -> usize
 // The result of an arrow atom whose object begins at `object`.
 pub fn result(clause: &[u8], object: usize) -> usize
     ensures { λ r. ⌜ r ≡ resultAt (now (clause .entry)) object ⌝ }
+    ensures { λ _. ⌜ now (clause .exit) ≡ now (clause .entry) ⌝ }
 {
     next(clause, next(clause, next(clause, object)))
 }
@@ -134,6 +145,7 @@ pub fn result(clause: &[u8], object: usize) -> usize
 // Argument n of an arrow atom whose object begins at `object`.
 pub fn argument(clause: &[u8], object: usize, n: usize) -> usize
     ensures { λ r. ⌜ r ≡ argumentAt (now (clause .entry)) (nextAt (now (clause .entry)) (nextAt (now (clause .entry)) object)) n ⌝ }
+    ensures { λ _. ⌜ now (clause .exit) ≡ now (clause .entry) ⌝ }
 {
     listed(clause, next(clause, next(clause, object)), n)
 }
@@ -150,6 +162,7 @@ fn object(clause: &[u8], head: &[u8], other: &[u8], at: usize) -> usize
 // The object of a positive sv or si.
 pub fn scalar(clause: &[u8], at: usize) -> usize
     ensures { λ r. ⌜ r ≡ objectAt (now (clause .entry)) (bytes "(sv ") (bytes "(si ") at ⌝ }
+    ensures { λ _. ⌜ now (clause .exit) ≡ now (clause .entry) ⌝ }
 {
     object(clause, b"(sv ", b"(si ", at)
 }
@@ -157,6 +170,7 @@ pub fn scalar(clause: &[u8], at: usize) -> usize
 // The object of a positive st or mt with a term result.
 pub fn signature(clause: &[u8], at: usize) -> usize
     ensures { λ r. ⌜ r ≡ objectAt (now (clause .entry)) (bytes "(st ") (bytes "(mt ") at ⌝ }
+    ensures { λ _. ⌜ now (clause .exit) ≡ now (clause .entry) ⌝ }
 {
     object(clause, b"(st ", b"(mt ", at)
 }
@@ -164,6 +178,7 @@ pub fn signature(clause: &[u8], at: usize) -> usize
 // The literals at x of a and at y of b both have the head of sv, or neither has.
 pub fn same_arrow(a: &[u8], x: usize, b: &[u8], y: usize) -> bool
     ensures { λ r. ⌜ r ≡ sameArrowAt (now (a .entry)) x (now (b .entry)) y ⌝ }
+    ensures { λ _. ⌜ (now (a .exit) ≡ now (a .entry)) × (now (b .exit) ≡ now (b .entry)) ⌝ }
 {
     let sv = within(a, first(a, b"(sv ", x));
     equal(sv, within(b, first(b, b"(sv ", y)))
@@ -172,6 +187,7 @@ pub fn same_arrow(a: &[u8], x: usize, b: &[u8], y: usize) -> bool
 // The places of the entries of the list of the line that begins at `at`.
 pub fn list(line: &[u8], at: usize) -> [usize; PLACES]
     ensures { λ r. ⌜ r ≡ listAt (now (line .entry)) at ⌝ }
+    ensures { λ _. ⌜ now (line .exit) ≡ now (line .entry) ⌝ }
 {
     starts(line, word(line, at, b"(let"))
 }

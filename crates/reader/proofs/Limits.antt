@@ -11,8 +11,8 @@ use Rattle.logic.specs.Syntax.{Term, var, app, Terms, nil, cons, Atom, link, ob
 use Rattle.logic.specs.Terms.{count, termsOf}
 use Rattle.logic.specs.Each.{eachTerm, eachTerms, eachAtom, eachClause, termWidth, termsWidth, width}
 use Rattle.lines.specs.declared.forms.LineAt.{LineAt}
-use Rattle.text.specs.Figures.{Figures, office}
-use Rattle.text.specs.Read.{form}
+use Rattle.text.specs.Figures.{maxArguments}
+use Rattle.text.specs.Form.{form}
 use Rattle.reader.specs.State.{argumentsFit, argumentsFitAll, anySymbol, clauseFits, listFits}
 use Rattle.lines.specs.Summary.{joined, termsMeasure, clauseMeasure, argumentCount, mostArguments}
 use Rattle.lines.specs.LineAt.{stepMeasure, lineOf}
@@ -51,30 +51,30 @@ module _ (n : ℕ) where
   )
 
 -- The method arguments of every atom are within the limit exactly if the most of them are.
-atom-arguments : (F : Figures) (x : Atom) → T (argumentsFit F x) ↔ argumentCount x ≤ F .arguments
+atom-arguments : (x : Atom) → T (argumentsFit x) ↔ argumentCount x ≤ maxArguments
 unfolding argumentsFit argumentCount
-atom-arguments F (link l t u) = (λ _. omega arith, λ _. tt)
-atom-arguments F (obj t) = (λ _. omega arith, λ _. tt)
-atom-arguments F (method a o m ts r) = (λ h. leb→le (count ts) (F .arguments) h, λ h. le→leb (count ts) (F .arguments) h)
+atom-arguments (link l t u) = (λ _. omega arith, λ _. tt)
+atom-arguments (obj t) = (λ _. omega arith, λ _. tt)
+atom-arguments (method a o m ts r) = (λ h. leb→le (count ts) maxArguments h, λ h. le→leb (count ts) maxArguments h)
 
-pub clause-arguments : (F : Figures) (c : Clause) → T (argumentsFitAll F c) ↔ mostArguments c ≤ F .arguments
+pub clause-arguments : (c : Clause) → T (argumentsFitAll c) ↔ mostArguments c ≤ maxArguments
 unfolding argumentsFitAll mostArguments
-clause-arguments F [] = (λ _. omega arith, λ _. tt)
-clause-arguments F (lit g x ∷ c) = (
-  λ h. let (a, b) = simp T-and at h in omega (arith, atom-arguments F x .0 a, clause-arguments F c .0 b),
-  λ h. simp T-and (atom-arguments F x .1 (omega arith), clause-arguments F c .1 (omega arith)),
+clause-arguments [] = (λ _. omega arith, λ _. tt)
+clause-arguments (lit g x ∷ c) = (
+  λ h. let (a, b) = simp T-and at h in omega (arith, atom-arguments x .0 a, clause-arguments c .0 b),
+  λ h. simp T-and (atom-arguments x .1 (omega arith), clause-arguments c .1 (omega arith)),
 )
 
 -- The limits of a clause and of a list.
-pub clause-limits : (c : Clause) → T (clauseFits office c) ↔ (length c ≤ 32) × (mostArguments c ≤ 8) × (width c ≤ 32)
-unfolding clauseFits office
+pub clause-limits : (c : Clause) → T (clauseFits c) ↔ (length c ≤ 32) × (mostArguments c ≤ 8) × (width c ≤ 32)
+unfolding clauseFits
 clause-limits c = (
-  λ h. let (a, b) = simp T-and at h in (leb→le (length c) 32 a, clause-arguments office c .0 (b .0), clause-below 32 c .0 (b .1)),
-  λ h. simp T-and (le→leb (length c) 32 (h .0), (clause-arguments office c .1 (h .1), clause-below 32 c .1 (h .2))),
+  λ h. let (a, b) = simp T-and at h in (leb→le (length c) 32 a, clause-arguments c .0 (b .0), clause-below 32 c .0 (b .1)),
+  λ h. simp T-and (le→leb (length c) 32 (h .0), (clause-arguments c .1 (h .1), clause-below 32 c .1 (h .2))),
 )
 
-list-limits : (ts : Terms) → T (listFits office ts) ↔ (count ts ≤ 32) × (termsWidth ts ≤ 32)
-unfolding listFits office
+list-limits : (ts : Terms) → T (listFits ts) ↔ (count ts ≤ 32) × (termsWidth ts ≤ 32)
+unfolding listFits
 list-limits ts = (
   λ h. let (a, b) = simp T-and at h in (leb→le (count ts) 32 a, terms-below 32 ts .0 b),
   λ h. simp T-and (le→leb (count ts) 32 (h .0), terms-below 32 ts .1 (h .1)),
@@ -88,13 +88,13 @@ line-limits l = (
 )
 
 -- So the numbers of a line decide check 5.
-pub input-limits : (table s : List ℕ) (c : Clause) → lineFits (lineOf table s (form (input c))) ≡ clauseFits office c
+pub input-limits : (table s : List ℕ) (c : Clause) → lineFits (lineOf table s (form (input c))) ≡ clauseFits c
 unfolding lineOf clauseMeasure
 input-limits table s c =
     same-test _ _ (λ h. let f = line-limits (lineOf table s (form (input c))) .0 h in clause-limits c .1 (omega arith))
     (λ h. let f = clause-limits c .0 h in line-limits (lineOf table s (form (input c))) .1 (omega arith))
 
-pub step-limits : (table s : List ℕ) (st : Step) → lineFits (lineOf table s (form (by st))) ≡ listFits office (st .first) && (listFits office (st .second) && clauseFits office (st .claim))
+pub step-limits : (table s : List ℕ) (st : Step) → lineFits (lineOf table s (form (by st))) ≡ listFits (st .first) && (listFits (st .second) && clauseFits (st .claim))
 unfolding lineOf stepMeasure joined clauseMeasure termsMeasure
 step-limits table s st =
     same-test _ _ (λ h. let f = line-limits (lineOf table s (form (by st))) .0 h in simp T-and (list-limits (st .first) .1 (omega arith), (list-limits (st .second) .1 (omega arith), clause-limits (st .claim) .1 (omega arith))))

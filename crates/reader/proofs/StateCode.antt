@@ -1,17 +1,12 @@
 -- The code of the reading state: its tests as the definitions have them.
 use Prim.Native.Nat.{ℕ, _+_, _≤_, _<_}
 use mathlib.Core.Path.{_≡_}
-use mathlib.Core.Bool.{Bool, true, false, cond, _&&_}
-use lib.Dec.{T, leb, ltb, eqb, leb→le, ltb→lt}
+use mathlib.Core.Bool.{Bool, true, false, cond}
+use lib.Dec.{T}
 use mathlib.Core.List.{List}
-use native.Mathlib.Omega.{arith}
 use borrow.Author.Tests.{eq-eqb, ne-eqb}
 use lib.ListN.{length, getD, drop}
 use Rattle.reader.specs.State.{hasConstant}
-use Rattle.lines.specs.declared.forms.Form.the-variants.{Sym}
-use Rattle.lines.specs.declared.forms.LineAt.{LineAt}
-use Rattle.reader.specs.ReadLine.{failureIn, failureOf}
-use Rattle.text.proofs.Tests.{T-and}
 use Rattle.text.proofs.Places.{at-byte, past}
 
 module _ (table : List ℕ) (i : ℕ) where
@@ -32,10 +27,6 @@ pub zero-or : (b : Bool) (n k : ℕ) → (k ≡ 0 → ⊥) → cond b n k ≡ 0 
 zero-or true n k h e = (tt, e)
 zero-or false n k h e = absurd (h e)
 
-module _ (symbols clauses inputs : ℕ) (ready : Bool) (l : LineAt) where
-  pub sym-passed : l .form ≡ Sym → failureOf symbols clauses inputs ready l ≡ 0 → (symbols < 256) × (l .k ≤ 8)
-  unfolding failureOf failureIn
-  sym-passed f e =
-      let (_, g) = zero-or (eqb clauses 0) _ 3 (λ h. omega arith) (rw f at e) in
-      let (h, _) = zero-or (ltb symbols 256 && leb (l .k) 8) 0 5 (λ h. omega arith) g in
-      let (a, b) = simp T-and at h in (ltb→lt symbols 256 a, leb→le (l .k) 8 b)
+-- A result is what the definition gives, and has what that has.
+pub and-so : {A : Type 0} {x y : A} (P : A → Type 0) → P y → x ≡ y → (x ≡ y) × P x
+and-so P p e = (e, rw e p)

@@ -1,37 +1,70 @@
+-- Nothing here is to be believed: these are promises of the reader, and `check` promises the verdict of the definitions.
 -- The state that the code holds, and the state of the definitions (State): what the one says of the other, over the text that is read.
-use Prim.Native.Nat.{ℕ, _<_}
+use Prim.Native.Nat.{ℕ, _≤_, _<_}
 use mathlib.Core.Path.{_≡_}
-use mathlib.Core.List.{List, []}
+use mathlib.Core.List.{List, [], _++_}
 use lib.Dec.{T}
 use lib.ListN.{length, getD, drop}
 use Rattle.logic.specs.Syntax.{Clause}
 use Rattle.logic.specs.Each.{width}
-use Rattle.reader.specs.declared.states.State as code
+use Rattle.lines.specs.declared.forms.LineAt.{LineAt}
+use Rattle.lines.specs.LineAt.{lineOf}
+use Rattle.reader.specs.declared.states.HeldState as code
+use Rattle.reader.specs.declared.states.Seen.{Seen}
+use Rattle.reader.specs.declared.states.Added.{Added}
 use Rattle.text.specs.Write.{putClause}
-use Rattle.text.specs.Read.{Reading, form, noForm}
-use Rattle.text.specs.Figures.{office}
+use Rattle.text.specs.Read.{readLine}
+use Rattle.text.specs.Figures.{office, maxSymbols}
 use Rattle.text.specs.Form.{formedClause}
-use Rattle.reader.specs.State.{State, clauses, clauseFits, lineFailure}
-use Rattle.reader.specs.ReadLine.{heldTable}
+use Rattle.reader.specs.State.{State, fresh, clauses, clauseFits, after}
+use Rattle.reader.specs.Failure.{readFailure}
+use Rattle.reader.specs.ReadLine.{heldTable, withAdded}
 
 -- A clause stands at a place of the text, formed and within the limits.
-pub record Stands (text : List ℕ) (at : ℕ) (c : Clause) : Type 0 where
+pub record Stands (depth : ℕ) (text : List ℕ) (at : ℕ) (c : Clause) : Type 0 where
   pub rest : List ℕ
   pub written : drop at text ≡ putClause c rest
-  pub formed : T (formedClause 16 c)
-  pub fits : T (clauseFits office c)
+  pub formed : T (formedClause depth c)
+  pub fits : T (clauseFits c)
 
--- "After each line the reading holds the argument counts of up to 256 symbols and the place of every clause", with its number of literals and its width.
-pub record Represents (text : List ℕ) (held : code.State) (st : State) : Type 0 where
-  pub room : (length (held .counts) ≡ 256) × (length (held .starts) ≡ 1_024) × (length (held .literals) ≡ 1_024) × (length (held .widths) ≡ 1_024)
+-- T19, "After each line the reading holds the argument counts of up to 256 symbols, and the place of every clause", with its number of
+-- literals and its width.
+pub record Represents (depth : ℕ) (text : List ℕ) (held : code.HeldState) (st : State) : Type 0 where
+  pub counts-room : length (held .counts) ≡ maxSymbols
+  pub starts-room : length (held .starts) ≡ office .lines
+  pub literals-room : length (held .literals) ≡ office .lines
+  pub widths-room : length (held .widths) ≡ office .lines
   pub table : heldTable held ≡ st .symbols
   pub symbols : held .symbols ≡ length (st .symbols)
   pub inputs : held .inputs ≡ length (st .inputs)
   pub count : held .clauses ≡ length (clauses st)
-  pub places : (n : ℕ) → n < length (clauses st) → Stands text (getD (held .starts) n 0) (getD (clauses st) n [])
-  pub sizes : (n : ℕ) → n < length (clauses st) → (getD (held .literals) n 0 ≡ length (getD (clauses st) n [])) × (getD (held .widths) n 0 ≡ width (getD (clauses st) n []))
+  pub places : (n : ℕ) → n < length (clauses st) → Stands depth text (getD (held .starts) n 0) (getD (clauses st) n [])
+  pub literals : (n : ℕ) → n < length (clauses st) → getD (held .literals) n 0 ≡ length (getD (clauses st) n [])
+  pub widths : (n : ℕ) → n < length (clauses st) → getD (held .widths) n 0 ≡ width (getD (clauses st) n [])
 
--- Checks 2 to 6 of a line, with the office's figures: the number of the first that fails, or 0.
-unfoldable pub readFailure : State → Reading → ℕ
-readFailure st noForm = 2
-readFailure st (form l) = lineFailure office st l 0
+-- What `fresh`, `see` and `adds` say of the state of the definitions: the fresh state represents the fresh one; the failure is the
+-- definitions' and the line is the one that they read; and where the line passes, its place in the text is known and there is room for a
+-- clause more, the state with what the line adds represents the state after the line.
+unfoldable pub Begins : code.HeldState → Type 0
+Begins r = (depth : ℕ) (text : List ℕ) → Represents depth text r fresh
+
+unfoldable pub Sees : ℕ → List ℕ → ℕ → ℕ → ℕ → List ℕ → Seen → Type 0
+Sees depth counts symbols clauses inputs bytes r =
+    (text : List ℕ) (held : code.HeldState) (st : State) → Represents depth text held st → counts ≡ held .counts → symbols ≡ held .symbols →
+    clauses ≡ held .clauses → inputs ≡ held .inputs →
+    (r .failure ≡ readFailure st (readLine depth bytes)) × (r .line ≡ lineOf (st .symbols) bytes (readLine depth bytes))
+
+-- The line's bytes stand at `start` of a text within the office's figures, and the state has room.
+pub record LineStands (text : List ℕ) (start : ℕ) (bytes : List ℕ) (held : code.HeldState) : Type 0 where
+  pub small : length text ≤ office .bytes
+  pub rest : List ℕ
+  pub begins : start ≤ length text
+  pub stands : drop start text ≡ bytes ++ rest
+  pub room : held .clauses < office .lines
+
+unfoldable pub Adds : ℕ → ℕ → LineAt → Added → Type 0
+Adds start inputs l r =
+    (depth : ℕ) (text bytes : List ℕ) (held : code.HeldState) (st : State) → Represents depth text held st →
+    LineStands text start bytes held → inputs ≡ held .inputs → l ≡ lineOf (st .symbols) bytes (readLine depth bytes) →
+    readFailure st (readLine depth bytes) ≡ 0 →
+    Represents depth text (withAdded held r) (after st (readLine depth bytes))

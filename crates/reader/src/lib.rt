@@ -1,3 +1,2 @@
-// The reading state, checks 2 to 6 of a line, and the clauses that were read. The definitions are in specs/, their laws in proofs/.
-pub mod clauses;
+// The reading state and checks 2 to 6 of a line. The definitions are in specs/, their laws in proofs/.
 pub mod states;

@@ -6,10 +6,15 @@ use lines::forms::SYM;
 use lines::forms::form_number;
 use lines::forms::line;
 use lines::measures::larger;
-use scan::texts::BYTES;
+use text::BYTES;
+use text::Figures;
+use text::LINES;
 ghost use mathlib.Core.Path.{_≡_};
+ghost use lib.ListN.{take};
 ghost use Rattle.reader.specs.State.{hasConstant};
-ghost use Rattle.reader.specs.ReadLine.{freshState, clauseFailure, failureOf, seenAt, placed, byteOf, addedBy, addedTo};
+ghost use Rattle.reader.specs.ReadLine.{freshState, clauseFailure, failureOf, seenAt, placed, byteOf};
+ghost use Rattle.reader.specs.ReadLine.{countedIn, addedBy, addedTo, slotOf};
+ghost use Rattle.reader.specs.Represents.{Begins, Sees, Adds};
 
 // The numbers of the checks.
 const FORM: usize = 2;
@@ -28,9 +33,6 @@ const SYMBOLS: usize = 256;
 // Terms that a symbol takes: K of a sym line.
 const PARTS: usize = 8;
 
-// Clauses of a text: one a line.
-const CLAUSES: usize = 1024;
-
 // Method arguments of an atom.
 const ARGUMENTS: usize = 8;
 
@@ -40,13 +42,14 @@ const ITEMS: usize = 32;
 // The largest number of a byte.
 const BYTE: usize = 255;
 
-// Of each symbol its argument count; of each clause its place, its number of literals and its width.
-pub struct State {
+// Of each symbol its argument count; of each clause its place, its number of literals and its width. There is room for a clause of each
+// line of the office's texts.
+pub struct HeldState {
     pub counts: [u8; SYMBOLS],
     pub symbols: usize,
-    pub starts: [u16; CLAUSES],
-    pub literals: [u8; CLAUSES],
-    pub widths: [u8; CLAUSES],
+    pub starts: [u16; LINES],
+    pub literals: [u8; LINES],
+    pub widths: [u8; LINES],
     pub clauses: usize,
     pub inputs: usize,
 }
@@ -57,24 +60,26 @@ pub struct Seen {
     pub line: LineAt,
 }
 
-// What a line that passes adds to the state: a symbol's argument count; or a clause's place, number of literals and width, and whether it is an input.
+// What a line that passes adds to the state: a symbol's argument count; or a clause's place, number of literals and width, and the number
+// of in lines with it.
 pub struct Added {
     pub symbol: bool,
-    pub input: bool,
     pub k: u8,
     pub start: u16,
     pub literals: u8,
     pub width: u8,
+    pub inputs: usize,
 }
 
-pub fn fresh() -> State
+pub fn fresh() -> HeldState
     ensures { λ r. ⌜ r ≡ freshState ⌝ }
+    ensures { λ r. ⌜ Begins r ⌝ }
 {
     let counts = [0u8; SYMBOLS];
-    let starts = [0u16; CLAUSES];
-    let literals = [0u8; CLAUSES];
-    let widths = [0u8; CLAUSES];
-    State {
+    let starts = [0u16; LINES];
+    let literals = [0u8; LINES];
+    let widths = [0u8; LINES];
+    HeldState {
         counts,
         symbols: 0,
         starts,
@@ -88,6 +93,7 @@ pub fn fresh() -> State
 // Whether some symbol takes no terms.
 pub fn has_constant(table: &[u8]) -> bool
     ensures { λ r. ⌜ r ≡ hasConstant (now (table .entry)) ⌝ }
+    ensures { λ _. ⌜ now (table .exit) ≡ now (table .entry) ⌝ }
 {
     let mut i = 0;
     while i < table.len() {
@@ -99,15 +105,23 @@ pub fn has_constant(table: &[u8]) -> bool
     false
 }
 
+// The argument counts of the first `symbols` symbols.
+pub fn table(counts: &[u8], symbols: usize) -> &[u8]
+    ensures { λ r. ⌜ now r ≡ take symbols (now (counts .entry)) ⌝ }
+    ensures { λ _. ⌜ now (counts .exit) ≡ now (counts .entry) ⌝ }
+{
+    if symbols >= counts.len() {
+        return counts;
+    }
+    &counts[..symbols]
+}
+
 // Checks 4 to 6 of a line with a clause.
-fn clause_failure(clauses: usize, ready: bool, l: LineAt) -> usize
-    ensures { λ r. ⌜ r ≡ clauseFailure clauses ready l ⌝ }
+fn clause_failure(ready: bool, l: LineAt) -> usize
+    ensures { λ r. ⌜ r ≡ clauseFailure ready l ⌝ }
 {
     if !ready {
         return CONSTANT;
-    }
-    if clauses >= CLAUSES {
-        return LIMIT;
     }
     let m = l.measure;
     if larger(larger(m.count, m.width), larger(l.firsts, l.seconds)) > ITEMS {
@@ -139,23 +153,33 @@ fn failure(symbols: usize, clauses: usize, inputs: usize, ready: bool, l: LineAt
             if clauses != inputs {
                 return ORDER;
             }
-            clause_failure(clauses, ready, l)
+            clause_failure(ready, l)
         }
-        Form::By => clause_failure(clauses, ready, l),
+        Form::By => clause_failure(ready, l),
     }
 }
 
-// Checks 2 to 6 of the next line, without its line end, over the table of argument counts.
-pub fn see(table: &[u8], symbols: usize, clauses: usize, inputs: usize, text: &[u8]) -> Seen
-    ensures { λ r. ⌜ r ≡ seenAt (now (table .entry)) symbols clauses inputs (now (text .entry)) ⌝ }
+// Checks 2 to 6 of the next line, without its line end, by what the state holds.
+pub fn see(
+    figures: Figures,
+    counts: &[u8],
+    symbols: usize,
+    clauses: usize,
+    inputs: usize,
+    text: &[u8],
+) -> Seen
+    ensures { λ r. ⌜ r ≡ seenAt (figures .depth) (now (counts .entry)) symbols clauses inputs (now (text .entry)) ⌝ }
+    ensures { λ r. ⌜ Sees (figures .depth) (now (counts .entry)) symbols clauses inputs (now (text .entry)) r ⌝ }
+    ensures { λ _. ⌜ (now (counts .exit) ≡ now (counts .entry)) × (now (text .exit) ≡ now (text .entry)) ⌝ }
 {
-    let l = line(text, table);
-    let ready = has_constant(table);
+    let declared = table(counts, symbols);
+    let l = line(text, declared, figures.depth);
+    let ready = has_constant(declared);
     let failure = failure(symbols, clauses, inputs, ready, l);
     Seen { failure, line: l }
 }
 
-// A place of the text, within 65,535 bytes.
+// A place of the text, within the office's bytes.
 fn place(start: usize, at: usize) -> u16
     ensures { λ r. ⌜ r ≡ placed start at ⌝ }
 {
@@ -178,8 +202,22 @@ fn byte(n: usize) -> u8
     n as u8
 }
 
-pub fn adds(start: usize, l: LineAt) -> Added
-    ensures { λ r. ⌜ r ≡ addedBy start l ⌝ }
+// One in line more, if it is one and there is room.
+fn counted(inputs: usize, input: bool) -> usize
+    ensures { λ r. ⌜ r ≡ countedIn inputs input ⌝ }
+{
+    if input {
+        if inputs < LINES {
+            return inputs + 1;
+        }
+    }
+    inputs
+}
+
+// What a line that passes adds, which begins at `start` of the text and comes after so many in lines.
+pub fn adds(start: usize, inputs: usize, l: LineAt) -> Added
+    ensures { λ r. ⌜ r ≡ addedBy start inputs l ⌝ }
+    ensures { λ r. ⌜ Adds start inputs l r ⌝ }
 {
     let f = l.form;
     let n = form_number(f);
@@ -188,18 +226,19 @@ pub fn adds(start: usize, l: LineAt) -> Added
     let start = place(start, l.clause);
     let literals = byte(m.count);
     let width = byte(l.width);
+    let inputs = counted(inputs, n == INPUT);
     Added {
         symbol: n == SYM,
-        input: n == INPUT,
         k,
         start,
         literals,
         width,
+        inputs,
     }
 }
 
 // The state after a line that passes, with what the line adds; as it was, where there is no room.
-pub fn after(state: State, a: Added) -> State
+pub fn after(state: HeldState, a: Added) -> HeldState
     ensures { λ r. ⌜ r ≡ addedTo state a ⌝ }
 {
     let mut next = state;
@@ -213,19 +252,20 @@ pub fn after(state: State, a: Added) -> State
         return next;
     }
     let n = next.clauses;
-    if n >= CLAUSES {
+    if n >= LINES {
         return next;
-    }
-    let mut inputs = next.inputs;
-    if a.input {
-        if inputs < CLAUSES {
-            inputs += 1;
-        }
     }
     next.starts[n] = a.start;
     next.literals[n] = a.literals;
     next.widths[n] = a.width;
     next.clauses = n + 1;
-    next.inputs = inputs;
+    next.inputs = a.inputs;
     next
+}
+
+// Where the state holds clause n; 0 where it has no room for it.
+pub fn slot(n: usize) -> usize
+    ensures { λ r. ⌜ r ≡ slotOf n ⌝ }
+{
+    if n < LINES { n } else { 0 }
 }

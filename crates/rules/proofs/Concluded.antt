@@ -84,38 +84,39 @@ literals-append (l ∷ c) d rest = ap (λ x. word " " (putLiteral l x)) (literal
 abbrev pub Expects : List ℕ → Clause → (ℕ → ℕ) → Type 0
 Expects target c walk = (pos b : ℕ) (x : List ℕ) → stripAt target (putLiterals c (b ∷ x)) pos ≡ stripAt target (b ∷ x) (walk pos)
 
-module _ (rule : Rule) (k : ℕ) (p : List ℕ) (n i x : ℕ) (line starts q : List ℕ) (m j y : ℕ) (others rest : List ℕ) (new a b : Clause)
-    (news : Expects rest new (newAt rule k p x line starts q y others rest))
-    (firsts : Expects rest a (othersAt p n (droppedAt (uses rule .b) p x i j) line starts rest))
-    (seconds : Expects rest b (othersAt q m j line others rest)) where
-  claim-chain : stripAt rest (putClause (new ++ (a ++ b)) (word ")" [])) 0 ≡ claimAt rule k p n i x line starts q m j y others rest
-  unfolding putClause claimAt claimBy newAt
-  claim-chain =
-      let o₃ = literals-open b 41 (41 ∷ []) in
-      let o₂ = literals-open a (o₃ .0) (o₃ .1) in
-      let o₁ = literals-open new (o₂ .0) (o₂ .1) in
-      let begin = stripAt rest (bytes "(or") 0 in
-      let first = newAt rule k p x line starts q y others rest begin in
-      let second = othersAt p n (droppedAt (uses rule .b) p x i j) line starts rest first in
-      ap (λ z. stripAt rest (bytes "(or" ++ z) 0) (literals-append new (a ++ b) (41 ∷ 41 ∷ []) ∙ ap (putLiterals new) (literals-append a b (41 ∷ 41 ∷ []) ∙ (ap (putLiterals a) (o₃ .2) ∙ o₂ .2)) ∙ o₁ .2)
-      ∙ (strip-chain rest (bytes "(or") (o₁ .0) (o₁ .1) 0
-      ∙ (ap (λ z. stripAt rest z begin) (sym (o₁ .2))
-      ∙ (news begin (o₂ .0) (o₂ .1)
-      ∙ (ap (λ z. stripAt rest z first) (sym (o₂ .2))
-      ∙ (firsts first (o₃ .0) (o₃ .1)
-      ∙ (ap (λ z. stripAt rest z second) (sym (o₃ .2)) ∙ seconds second 41 (41 ∷ [])))))))
+module _ (depth : ℕ) where
+  module _ (rule : Rule) (k : ℕ) (p : List ℕ) (n i x : ℕ) (line starts q : List ℕ) (m j y : ℕ) (others rest : List ℕ) (new a b : Clause)
+      (news : Expects rest new (newAt depth rule k p x line starts q y others rest))
+      (firsts : Expects rest a (othersAt depth p n (droppedAt (uses rule .b) p x i j) line starts rest))
+      (seconds : Expects rest b (othersAt depth q m j line others rest)) where
+    claim-chain : stripAt rest (putClause (new ++ (a ++ b)) (word ")" [])) 0 ≡ claimAt depth rule k p n i x line starts q m j y others rest
+    unfolding putClause claimAt claimBy newAt
+    claim-chain =
+        let o₃ = literals-open b 41 (41 ∷ []) in
+        let o₂ = literals-open a (o₃ .0) (o₃ .1) in
+        let o₁ = literals-open new (o₂ .0) (o₂ .1) in
+        let begin = stripAt rest (bytes "(or") 0 in
+        let first = newAt depth rule k p x line starts q y others rest begin in
+        let second = othersAt depth p n (droppedAt (uses rule .b) p x i j) line starts rest first in
+        ap (λ z. stripAt rest (bytes "(or" ++ z) 0) (literals-append new (a ++ b) (41 ∷ 41 ∷ []) ∙ ap (putLiterals new) (literals-append a b (41 ∷ 41 ∷ []) ∙ (ap (putLiterals a) (o₃ .2) ∙ o₂ .2)) ∙ o₁ .2)
+        ∙ (strip-chain rest (bytes "(or") (o₁ .0) (o₁ .1) 0
+        ∙ (ap (λ z. stripAt rest z begin) (sym (o₁ .2))
+        ∙ (news begin (o₂ .0) (o₂ .1)
+        ∙ (ap (λ z. stripAt rest z first) (sym (o₂ .2))
+        ∙ (firsts first (o₃ .0) (o₃ .1)
+        ∙ (ap (λ z. stripAt rest z second) (sym (o₃ .2)) ∙ seconds second 41 (41 ∷ [])))))))
 
--- Checks 9 and 10 as the table says, and the claim: then the answer is that of the conclusion.
-pub concluded : (rule : Rule) (k : ℕ) (p : List ℕ) (n i x : ℕ) (line starts q : List ℕ) (m j y : ℕ) (others : List ℕ) (new a b : Clause) {pos : ℕ} {claim : Clause} → ClaimAt line pos claim →
-    Expects (drop pos line) new (newAt rule k p x line starts q y others (drop pos line)) →
-    Expects (drop pos line) a (othersAt p n (droppedAt (uses rule .b) p x i j) line starts (drop pos line)) →
-    Expects (drop pos line) b (othersAt q m j line others (drop pos line)) →
-    (g : Agreement) → rowAt rule k p x line starts q y others ≡ judgedOf (concludes g new) → Over formedNumber formedSymbol (new ++ (a ++ b)) →
-    thenClaim (rowAt rule k p x line starts q y others) (eqb (claimAt rule k p n i x line starts q m j y others (drop pos line)) (length (drop pos line))) ≡ judgeConclusion (concludes g (new ++ (a ++ b))) claim
-unfolding judgedOf judgeConclusion thenClaim
-concluded rule k p n i x line starts q m j y others new a b {pos} {claim} at news firsts seconds g row over =
-    rw (row, ← claim-chain rule k p n i x line starts q m j y others (drop pos line) new a b news firsts seconds) (go (holds? g) _ _ (claim-exactly at (new ++ (a ++ b)) over))
-  where
-    go : (d : Dec (Holds g)) (v : Judged) (t : Bool) → cond t Passed WrongClaim ≡ v → thenClaim (ite d Passed Disagrees) t ≡ ite d v Disagrees
-    go (yes h) v t e = e
-    go (no h) v t e = refl
+  -- Checks 9 and 10 as the table says, and the claim: then the answer is that of the conclusion.
+  pub concluded : (rule : Rule) (k : ℕ) (p : List ℕ) (n i x : ℕ) (line starts q : List ℕ) (m j y : ℕ) (others : List ℕ) (new a b : Clause) {pos : ℕ} {claim : Clause} → ClaimAt line pos claim →
+      Expects (drop pos line) new (newAt depth rule k p x line starts q y others (drop pos line)) →
+      Expects (drop pos line) a (othersAt depth p n (droppedAt (uses rule .b) p x i j) line starts (drop pos line)) →
+      Expects (drop pos line) b (othersAt depth q m j line others (drop pos line)) →
+      (g : Agreement) → rowAt depth rule k p x line starts q y others ≡ judgedOf (concludes g new) → Over formedNumber formedSymbol (new ++ (a ++ b)) →
+      thenClaim (rowAt depth rule k p x line starts q y others) (eqb (claimAt depth rule k p n i x line starts q m j y others (drop pos line)) (length (drop pos line))) ≡ judgeConclusion (concludes g (new ++ (a ++ b))) claim
+  unfolding judgedOf judgeConclusion thenClaim
+  concluded rule k p n i x line starts q m j y others new a b {pos} {claim} at news firsts seconds g row over =
+      rw (row, ← claim-chain rule k p n i x line starts q m j y others (drop pos line) new a b news firsts seconds) (go (holds? g) _ _ (claim-exactly at (new ++ (a ++ b)) over))
+    where
+      go : (d : Dec (Holds g)) (v : Judged) (t : Bool) → cond t Passed WrongClaim ≡ v → thenClaim (ite d Passed Disagrees) t ≡ ite d v Disagrees
+      go (yes h) v t e = e
+      go (no h) v t e = refl

@@ -1,6 +1,6 @@
 -- An atom covers another in bytes exactly if it does, both filled.
-use Prim.Native.Nat.{ℕ, _+_, _≤_, _<_}
-use mathlib.Core.Bool.{Bool, true, false, _||_, true≢false}
+use Prim.Native.Nat.{ℕ, _+_, _≤_, _<_, suc}
+use mathlib.Core.Bool.{Bool, true, false, _||_, true≢false, _&&_}
 use mathlib.Core.List.{List, [], _++_}
 use mathlib.Core.Logic.{_⊎_, inl, inr, ⊎-elim, _↔_}
 use mathlib.Core.Path.{_≡_, refl, sym, ap, _∙_}
@@ -12,7 +12,7 @@ use Rattle.logic.specs.declared.Arrow.{Arrow}
 use Rattle.logic.specs.declared.Arrow.the-variants.{Sv, Si, Mv, Mi, St, Mt}
 use Rattle.logic.specs.Syntax.{Term, var, app, Terms, Result, value, none, mayBeNone, Atom, link, obj, method}
 use Rattle.logic.specs.Terms.{termsOf}
-use Rattle.logic.specs.Equality.{arrow?, arrowAt, arrowNumber, arrow-back}
+use Rattle.logic.specs.Equality.{arrow?, nthArrow, arrowNumber, arrow-back}
 use Rattle.logic.specs.Each.{termsWidth}
 use Rattle.logic.specs.Fill.{Substitution, fillResult, fillAtom}
 use Rattle.logic.specs.Rules.{bareResult, bare, Covers}
@@ -37,17 +37,18 @@ use Rattle.filling.specs.Agree.{agreeAt, callsAt}
 use Rattle.parts.specs.Shapes.{within}
 use Rattle.filling.specs.Covers.{headAt, bareAt, coversAt}
 
--- An atom that stands at a place of p, formed, its variables below w.
-pub record AtomAt (p : List ℕ) (at : ℕ) (w : ℕ) (x : Atom) : Type 0 where
-  pub rest : List ℕ
-  pub stands : Stands p at (putAtom x rest)
-  pub formed : T (formedAtom 16 x)
-  pub narrow : termsWidth (termsOf x) ≤ w
+module _ (depth : ℕ) where
+  -- An atom that stands at a place of p, formed, its variables below w.
+  pub record AtomAt (p : List ℕ) (at : ℕ) (w : ℕ) (x : Atom) : Type 0 where
+    pub rest : List ℕ
+    pub stands : Stands p at (putAtom x rest)
+    pub formed : T (formedAtom depth x)
+    pub narrow : termsWidth (termsOf x) ≤ w
 
 -- An arrow's kind tells the arrow.
 kind-arrow : (a b : Arrow) → arrowKind a ≡ arrowKind b → a ≡ b
 unfolding arrowNumber
-kind-arrow a b e = sym (arrow-back a) ∙ (ap arrowAt (omega (arith, e, shift a, shift b)) ∙ arrow-back b)
+kind-arrow a b e = sym (arrow-back a) ∙ (ap nthArrow (omega (arith, e, shift a, shift b)) ∙ arrow-back b)
   where
     shift : (a : Arrow) → arrowKind a ≡ arrowNumber a + 4
     shift = elim [ Sv ↦ refl | Si ↦ refl | Mv ↦ refl | Mi ↦ refl | St ↦ refl | Mt ↦ refl ]
@@ -151,80 +152,81 @@ empty-fill σ (obj t) = refl
 empty-fill σ (method a o m ts (value r)) = refl
 empty-fill σ (method a o m ts none) = refl
 
-module _ {line starts others : List ℕ} {σ τ : Substitution} {v w : ℕ} (g : Images line starts σ v) (h : Images line others τ w) (p q : List ℕ) where
-  pub atoms-meet : {x y : ℕ} (a b : Atom) → AtomAt p x v a → AtomAt q y w b → T (agreeAt p x line starts q y others) ↔ (fillAtom σ a ≡ fillAtom τ b)
-  atoms-meet a b i j =
-      atoms-agree p q line starts others σ τ v w (g .entry) (h .entry) a b (i .rest) (j .rest) (i .stands) (j .stands) (atom-deeper 16 17 a (omega arith) (i .formed)) (atom-deeper 16 17 b (omega arith) (j .formed)) (i .narrow) (j .narrow)
-      (fill-atom-over σ v (g .numbers) 16 a (i .formed) (i .narrow)) (fill-atom-over τ w (h .numbers) 16 b (j .formed) (j .narrow))
+module _ (depth : ℕ) where
+  module _ {line starts others : List ℕ} {σ τ : Substitution} {v w : ℕ} (g : Images line starts σ v) (h : Images line others τ w) (p q : List ℕ) where
+    pub atoms-meet : {x y : ℕ} (a b : Atom) → AtomAt depth p x v a → AtomAt depth q y w b → T (agreeAt depth p x line starts q y others) ↔ (fillAtom σ a ≡ fillAtom τ b)
+    atoms-meet a b i j =
+        atoms-agree depth p q line starts others σ τ v w (g .entry) (h .entry) a b (i .rest) (j .rest) (i .stands) (j .stands) (atom-deeper depth (suc depth) a (omega arith) (i .formed)) (atom-deeper depth (suc depth) b (omega arith) (j .formed)) (i .narrow) (j .narrow)
+        (fill-atom-over σ v (g .numbers) depth a (i .formed) (i .narrow)) (fill-atom-over τ w (h .numbers) depth b (j .formed) (j .narrow))
 
-  full-bare : (x y : ℕ) (a : Atom) → empty a ≡ false → AtomAt p x v a → bareAt p x line starts q y others ≡ false
-  unfolding bareAt
-  full-bare x y a e i = rw (within-past p _ (full-past p a (i .rest) e (i .stands)))
+    full-bare : (x y : ℕ) (a : Atom) → empty a ≡ false → AtomAt depth p x v a → bareAt depth p x line starts q y others ≡ false
+    unfolding bareAt
+    full-bare x y a e i = rw (within-past p _ (full-past p a (i .rest) e (i .stands)))
 
-  -- The atom at x has none.
-  module _ (x y : ℕ) (c : Arrow) (o m : Term) (ts : Terms) (i : AtomAt p x v (method c o m ts none)) where
-    here : Stands p (stripAt p (head (arrowKind c)) x) (putTerm o (word " " (fromMethod p m ts none (i .rest))))
-    unfolding kindNumber afterHead
-    here = head-stands p (method c o m ts none) (i .rest) (i .stands)
+    -- The atom at x has none.
+    module _ (x y : ℕ) (c : Arrow) (o m : Term) (ts : Terms) (i : AtomAt depth p x v (method c o m ts none)) where
+      here : Stands p (stripAt p (head (arrowKind c)) x) (putTerm o (word " " (fromMethod p m ts none (i .rest))))
+      unfolding kindNumber afterHead
+      here = head-stands p (method c o m ts none) (i .rest) (i .stands)
 
-    none-bytes : bareAt p x line starts q y others ≡ callsAt (within q (stripAt q (head (arrowKind c)) y)) p (stripAt p (head (arrowKind c)) x) line starts q (stripAt q (head (arrowKind c)) y) others
-    unfolding bareAt headAt putResult strip
-    none-bytes =
-        let e : headAt p x ≡ head (arrowKind c) = ap (take 4) (i .stands .bytes-there) ∙ arrow-head c o m ts none (i .rest) in
-        rw (e, within-here p _ (strip-stands p (bytes "none") (result-stands p o m ts none (i .rest) here) refl .within))
+      none-bytes : bareAt depth p x line starts q y others ≡ within q (stripAt q (head (arrowKind c)) y) && callsAt depth p (stripAt p (head (arrowKind c)) x) line starts q (stripAt q (head (arrowKind c)) y) others
+      unfolding bareAt headAt putResult strip
+      none-bytes =
+          let e : headAt p x ≡ head (arrowKind c) = ap (take 4) (i .stands .bytes-there) ∙ arrow-head c o m ts none (i .rest) in
+          rw (e, within-here p _ (strip-stands p (bytes "none") (result-stands p o m ts none (i .rest) here) refl .within))
 
-    other-bare : (b : Atom) → AtomAt q y w b → (arrowKind c ≡ kindNumber b → ⊥) → T (bareAt p x line starts q y others) ↔ (bare (fillAtom τ b) ≡ fillAtom σ (method c o m ts none))
-    unfolding callsAt kindNumber
-    other-bare b j n = rw (none-bytes, within-past q _ (head-past q (arrowKind c) b (j .rest) (arrow-range c .1) n (j .stands))) (λ t. absurd t, λ e. absurd (n (sym (fill-kind σ (method c o m ts none)) ∙ (ap kindNumber (sym e) ∙ (bare-kind (fillAtom τ b) ∙ fill-kind τ b)))))
+      other-bare : (b : Atom) → AtomAt depth q y w b → (arrowKind c ≡ kindNumber b → ⊥) → T (bareAt depth p x line starts q y others) ↔ (bare (fillAtom τ b) ≡ fillAtom σ (method c o m ts none))
+      unfolding callsAt kindNumber
+      other-bare b j n = rw (none-bytes, within-past q _ (head-past q (arrowKind c) b (j .rest) (arrow-range c .1) n (j .stands))) (λ t. absurd t, λ e. absurd (n (sym (fill-kind σ (method c o m ts none)) ∙ (ap kindNumber (sym e) ∙ (bare-kind (fillAtom τ b) ∙ fill-kind τ b)))))
 
-    same-bare : (o′ m′ : Term) (ts′ : Terms) (r′ : Result) → AtomAt q y w (method c o′ m′ ts′ r′) → T (bareAt p x line starts q y others) ↔ (bare (fillAtom τ (method c o′ m′ ts′ r′)) ≡ fillAtom σ (method c o m ts none))
-    unfolding bare bareResult fillAtom fillResult kindNumber afterHead formedAtom formedResult
-    same-bare o′ m′ ts′ r′ j =
-        let s = head-stands q (method c o′ m′ ts′ r′) (j .rest) (j .stands) in
-        let d = calls-meet g h (within q (stripAt q (head (arrowKind c)) y)) (call-stands c o m ts none (i .rest) here (i .formed) (i .narrow)) (call-stands c o′ m′ ts′ r′ (j .rest) s (j .formed) (j .narrow)) in
-        let z : within q (stripAt q (head (arrowKind c)) y) ≡ true = within-here q _ (s .within) in
-        let (_, f) = simp T-and at (i .formed) in
-        let e : bareResult (mayBeNone c) (fillResult τ r′) ≡ none = ap (λ b. bareResult b (fillResult τ r′)) (holds (mayBeNone c) f) in
-        rw (none-bytes, e) (
-          λ t. let k = d .0 t in let k₁ = k .1 in let k₂ = k .2 in let k₃ = k .3 in cc,
-          λ t. d .1 (rw z tt, cc, cc, cc),
-        )
+      same-bare : (o′ m′ : Term) (ts′ : Terms) (r′ : Result) → AtomAt depth q y w (method c o′ m′ ts′ r′) → T (bareAt depth p x line starts q y others) ↔ (bare (fillAtom τ (method c o′ m′ ts′ r′)) ≡ fillAtom σ (method c o m ts none))
+      unfolding bare bareResult fillAtom fillResult kindNumber afterHead formedAtom formedResult
+      same-bare o′ m′ ts′ r′ j =
+          let s = head-stands q (method c o′ m′ ts′ r′) (j .rest) (j .stands) in
+          let d = calls-meet depth g h (call-stands depth c o m ts none (i .rest) here (i .formed) (i .narrow)) (call-stands depth c o′ m′ ts′ r′ (j .rest) s (j .formed) (j .narrow)) in
+          let z : within q (stripAt q (head (arrowKind c)) y) ≡ true = within-here q _ (s .within) in
+          let (_, f) = simp T-and at (i .formed) in
+          let e : bareResult (mayBeNone c) (fillResult τ r′) ≡ none = ap (λ b. bareResult b (fillResult τ r′)) (holds (mayBeNone c) f) in
+          rw (none-bytes, e, z) (
+            λ t. let k = d .0 t in let k₁ = k .0 in let k₂ = k .1 in let k₃ = k .2 in cc,
+            λ t. d .1 (cc, cc, cc),
+          )
 
-    none-bare : (b : Atom) → AtomAt q y w b → T (bareAt p x line starts q y others) ↔ (bare (fillAtom τ b) ≡ fillAtom σ (method c o m ts none))
-    unfolding kindNumber
-    none-bare (link l t u) j = other-bare (link l t u) j (λ e. link-arrow l c (sym e))
-    none-bare (obj t) j = other-bare (obj t) j (λ e. omega (arith, arrow-range c .0))
-    none-bare (method c′ o′ m′ ts′ r′) j = go (arrow? c′ c)
-      where
-        go : Dec (c′ ≡ c) → T (bareAt p x line starts q y others) ↔ (bare (fillAtom τ (method c′ o′ m′ ts′ r′)) ≡ fillAtom σ (method c o m ts none))
-        go (yes e) = rw e (same-bare o′ m′ ts′ r′ (rw e at j))
-        go (no n) = other-bare (method c′ o′ m′ ts′ r′) j (λ e. n (kind-arrow c′ c (sym e)))
+      none-bare : (b : Atom) → AtomAt depth q y w b → T (bareAt depth p x line starts q y others) ↔ (bare (fillAtom τ b) ≡ fillAtom σ (method c o m ts none))
+      unfolding kindNumber
+      none-bare (link l t u) j = other-bare (link l t u) j (λ e. link-arrow l c (sym e))
+      none-bare (obj t) j = other-bare (obj t) j (λ e. omega (arith, arrow-range c .0))
+      none-bare (method c′ o′ m′ ts′ r′) j = go (arrow? c′ c)
+        where
+          go : Dec (c′ ≡ c) → T (bareAt depth p x line starts q y others) ↔ (bare (fillAtom τ (method c′ o′ m′ ts′ r′)) ≡ fillAtom σ (method c o m ts none))
+          go (yes e) = rw e (same-bare o′ m′ ts′ r′ (rw e at j))
+          go (no n) = other-bare (method c′ o′ m′ ts′ r′) j (λ e. n (kind-arrow c′ c (sym e)))
 
-  module _ (x y : ℕ) (b : Atom) (j : AtomAt q y w b) where
-    -- "X covers Y if they are equal, or Y is X with none in place of a term result"
-    covers-full : (a : Atom) → empty a ≡ false → AtomAt p x v a → T (coversAt p x line starts q y others) ↔ Covers (fillAtom τ b) (fillAtom σ a)
-    unfolding coversAt Covers
-    covers-full a e i =
-        let same = atoms-meet a b i j in
-        let one = T-or (agreeAt p x line starts q y others) (bareAt p x line starts q y others) in
-        let k = full-bare x y a e i in (
-          λ t. ⊎-elim (λ z. inl (sym (same .0 z))) (λ z. absurd (rw k at z)) (one .0 t),
-          λ t. one .1 (inl (same .1 (sym (⊎-elim (λ z. z) (λ z. bare-full (fillAtom τ b) (fillAtom σ a) (empty-fill σ a ∙ e) z) t)))),
-        )
+    module _ (x y : ℕ) (b : Atom) (j : AtomAt depth q y w b) where
+      -- "X covers Y if they are equal, or Y is X with none in place of a term result"
+      covers-full : (a : Atom) → empty a ≡ false → AtomAt depth p x v a → T (coversAt depth p x line starts q y others) ↔ Covers (fillAtom τ b) (fillAtom σ a)
+      unfolding coversAt Covers
+      covers-full a e i =
+          let same = atoms-meet a b i j in
+          let one = T-or (agreeAt depth p x line starts q y others) (bareAt depth p x line starts q y others) in
+          let k = full-bare x y a e i in (
+            λ t. ⊎-elim (λ z. inl (sym (same .0 z))) (λ z. absurd (rw k at z)) (one .0 t),
+            λ t. one .1 (inl (same .1 (sym (⊎-elim (λ z. z) (λ z. bare-full (fillAtom τ b) (fillAtom σ a) (empty-fill σ a ∙ e) z) t)))),
+          )
 
-    covers-none : (c : Arrow) (o m : Term) (ts : Terms) → AtomAt p x v (method c o m ts none) → T (coversAt p x line starts q y others) ↔ Covers (fillAtom τ b) (fillAtom σ (method c o m ts none))
-    unfolding coversAt Covers
-    covers-none c o m ts i =
-        let same = atoms-meet (method c o m ts none) b i j in
-        let one = T-or (agreeAt p x line starts q y others) (bareAt p x line starts q y others) in
-        let none = none-bare x y c o m ts i b j in (
-          λ t. ⊎-elim (λ z. inl (sym (same .0 z))) (λ z. inr (none .0 z)) (one .0 t),
-          λ t. one .1 (⊎-elim (λ z. inl (same .1 (sym z))) (λ z. inr (none .1 z)) t),
-        )
+      covers-none : (c : Arrow) (o m : Term) (ts : Terms) → AtomAt depth p x v (method c o m ts none) → T (coversAt depth p x line starts q y others) ↔ Covers (fillAtom τ b) (fillAtom σ (method c o m ts none))
+      unfolding coversAt Covers
+      covers-none c o m ts i =
+          let same = atoms-meet (method c o m ts none) b i j in
+          let one = T-or (agreeAt depth p x line starts q y others) (bareAt depth p x line starts q y others) in
+          let none = none-bare x y c o m ts i b j in (
+            λ t. ⊎-elim (λ z. inl (sym (same .0 z))) (λ z. inr (none .0 z)) (one .0 t),
+            λ t. one .1 (⊎-elim (λ z. inl (same .1 (sym z))) (λ z. inr (none .1 z)) t),
+          )
 
-    pub covers-meet : (a : Atom) → AtomAt p x v a → T (coversAt p x line starts q y others) ↔ Covers (fillAtom τ b) (fillAtom σ a)
-    unfolding empty
-    covers-meet (link l t u) i = covers-full (link l t u) refl i
-    covers-meet (obj t) i = covers-full (obj t) refl i
-    covers-meet (method a o m ts (value r)) i = covers-full (method a o m ts (value r)) refl i
-    covers-meet (method a o m ts none) i = covers-none a o m ts i
+      pub covers-meet : (a : Atom) → AtomAt depth p x v a → T (coversAt depth p x line starts q y others) ↔ Covers (fillAtom τ b) (fillAtom σ a)
+      unfolding empty
+      covers-meet (link l t u) i = covers-full (link l t u) refl i
+      covers-meet (obj t) i = covers-full (obj t) refl i
+      covers-meet (method a o m ts (value r)) i = covers-full (method a o m ts (value r)) refl i
+      covers-meet (method a o m ts none) i = covers-none a o m ts i

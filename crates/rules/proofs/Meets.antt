@@ -13,7 +13,7 @@ use Rattle.text.specs.Write.{putLiteral, putLiterals}
 use Rattle.text.specs.Form.{numbered, formedLiteral}
 use Rattle.parts.specs.Shapes.{stripAt}
 use Rattle.parts.proofs.Placing.{Stands}
-use Rattle.filling.proofs.Claimed.{Entries}
+use Rattle.filling.proofs.Grounds.{Entries}
 use Rattle.rules.proofs.Answered.{judgedOf}
 use Rattle.table.specs.Rows.{rowAt}
 use Rattle.rules.specs.Claim.{newAt}
@@ -23,15 +23,16 @@ pub record Images (line starts : List ℕ) (σ : Substitution) (w : ℕ) : Type 
   pub entry : Entries line starts σ w
   pub numbers : (v : ℕ) → v < w → T (numbered (σ v))
 
--- A literal that stands at a place of p, formed, its variables below w.
-pub record LiteralAt (p : List ℕ) (at : ℕ) (w : ℕ) (l : Literal) : Type 0 where
-  pub rest : List ℕ
-  pub stands : Stands p at (putLiteral l rest)
-  pub formed : T (formedLiteral 16 l)
-  pub narrow : width (l ∷ []) ≤ w
+module _ (depth : ℕ) where
+  -- A literal that stands at a place of p, formed, its variables below w.
+  pub record LiteralAt (p : List ℕ) (at : ℕ) (w : ℕ) (l : Literal) : Type 0 where
+    pub rest : List ℕ
+    pub stands : Stands p at (putLiteral l rest)
+    pub formed : T (formedLiteral depth l)
+    pub narrow : width (l ∷ []) ≤ w
 
--- Checks 9 and 10 answer what the conclusion says, and where it has a new literal, that is what is expected, in whatever bytes.
-pub record Meets (rule : Rule) (k : ℕ) (p : List ℕ) (i : ℕ) (line starts q : List ℕ) (j : ℕ) (others : List ℕ) (c : Conclusion) : Type 0 where
-  pub judged : rowAt rule k p i line starts q j others ≡ judgedOf c
-  pub claimed : (g : Agreement) (new : Clause) → c ≡ concludes g new → (target : List ℕ) (pos b : ℕ) (x : List ℕ) →
-      stripAt target (putLiterals new (b ∷ x)) pos ≡ stripAt target (b ∷ x) (newAt rule k p i line starts q j others target pos)
+  -- Checks 9 and 10 answer what the conclusion says, and where it has a new literal, that is what is expected, in whatever bytes.
+  pub record Meets (rule : Rule) (k : ℕ) (p : List ℕ) (i : ℕ) (line starts q : List ℕ) (j : ℕ) (others : List ℕ) (c : Conclusion) : Type 0 where
+    pub judged : rowAt depth rule k p i line starts q j others ≡ judgedOf c
+    pub claimed : (g : Agreement) (new : Clause) → c ≡ concludes g new → (target : List ℕ) (pos b : ℕ) (x : List ℕ) →
+        stripAt target (putLiterals new (b ∷ x)) pos ≡ stripAt target (b ∷ x) (newAt depth rule k p i line starts q j others target pos)

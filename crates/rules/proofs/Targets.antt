@@ -15,7 +15,7 @@ use Rattle.logic.specs.declared.Arrow.the-variants.{Sv, Si, Mv, Mi, St, Mt}
 use Rattle.logic.specs.declared.Rule.{Rule}
 use Rattle.logic.specs.declared.Rule.the-variants.{Refl, Res, Fac, Par, Acy, Tra, Inc, Inh, Inp, Out, Sca, Eli}
 use Rattle.logic.specs.Syntax.{Term, Terms, nil, cons, Result, value, none, Atom, link, obj, method, Literal, lit}
-use Rattle.logic.specs.Equality.{link?, linkNumber, linkAt, link-back}
+use Rattle.logic.specs.Equality.{link?, linkNumber, nthLink, link-back}
 use Rattle.logic.specs.Terms.{join, resultTerms, termsOf}
 use Rattle.logic.specs.Each.{termWidth, termsWidth, width}
 use Rattle.logic.specs.Fill.{Substitution, fill, fills, fillResult}
@@ -35,31 +35,32 @@ use Rattle.text.proofs.Gives.{Gives, nothing, gives}
 use Rattle.text.proofs.Positions.{Tail, End, end-refl, strip-tail, skip-tail, item-tail, and-tail}
 use Rattle.text.specs.Heads.{linkKind, arrowKind, kindNumber, head}
 use Rattle.text.proofs.Heads.{afterHead}
-use Rattle.parts.specs.Shapes.{stripAt, nextAt, positiveAt, firstAt, orElse, ifPlace, resultAt, objectAt, argumentAt}
-use Rattle.filling.specs.Filled.{Filler, fillItem}
-use Rattle.filling.proofs.Holes.{stack}
+use Rattle.parts.specs.Shapes.{stripAt, nextAt, positiveAt, firstAt, orPlace, ifPlace, resultAt, objectAt, argumentAt}
+use Rattle.filling.specs.Filled.{Filler, fillItem, itemDepth, holeDepth}
+use Rattle.filling.proofs.LineLists.{stack-sum}
 use Rattle.filling.proofs.Placed.{Argument as Chosen, first, next, replaced, hole-second, hole-object, hole-argument, hole-result}
 use Rattle.parts.proofs.Placing.{Stands, walk-stands, walk-past, none-past, fromMethod, past-inner, past-object, past-result, result-stands, either-past, either-stands, object-of, object-none, next-term, past-next, past-strip, positive-stands, negative-past, head-stands, head-past}
 use Rattle.table.specs.declared.rows.Target.{Target as Part}
 use Rattle.table.specs.declared.rows.Target.the-variants.{Nothing, Occurrence, Subclass, Member, Object as Owner, Argument as Input, Result as Output}
 use Rattle.table.specs.Rows.{targetAt, partAt}
 
--- A target of the literal l, which `rest` follows: it is formed, its variables are below w, and filling with the hole at it, which `left` follows, puts
--- another term in its place.
-pub record Hole (w : ℕ) (l : Literal) (rest : List ℕ) (t : Target) (left : List ℕ) : Type 0 where
-  pub formed : T (formedTerm 16 (t .term))
-  pub narrow : termWidth (t .term) ≤ w
-  pub filled : (f : Filler) (σ : Substitution) (u : Term) → ((n : ℕ) → n < w → f .entry n ≡ putTerm (σ n) []) → ((e : ℕ) → 16 ≤ e → (r : List ℕ) × (f .new e ≡ got (putTerm u []) r)) →
-      f .hole ≡ length (putTerm (t .term) left) → fillItem f 35 (putLiteral l rest) ≡ got (putLiteral (t .with σ u) []) rest
+module _ (depth : ℕ) where
+  -- A target of the literal l, which `rest` follows: it is formed, its variables are below w, and filling with the hole at it, which `left` follows, puts
+  -- another term in its place.
+  pub record Hole (w : ℕ) (l : Literal) (rest : List ℕ) (t : Target) (left : List ℕ) : Type 0 where
+    pub formed : T (formedTerm depth (t .term))
+    pub narrow : termWidth (t .term) ≤ w
+    pub filled : (f : Filler) (σ : Substitution) (u : Term) → ((n : ℕ) → n < w → f .entry n ≡ putTerm (σ n) []) → ((e : ℕ) → depth ≤ e → (r : List ℕ) × (f .new e ≡ got (putTerm u []) r)) →
+        f .hole ≡ length (putTerm (t .term) left) → fillItem f (holeDepth depth) (putLiteral l rest) ≡ got (putLiteral (t .with σ u) []) rest
 
--- A place of what is aimed at.
-pub data Placed (p : List ℕ) (x w : ℕ) (l : Literal) (rest : List ℕ) : Aim → Type 0 where
-  missed : x ≡ length p + 1 → Placed p x w l rest misses
-  found : (t : Target) (left : List ℕ) → Stands p x (putTerm (t .term) left) → Hole w l rest t left → Placed p x w l rest (hits t)
+  -- A place of what is aimed at.
+  pub data Placed (p : List ℕ) (x w : ℕ) (l : Literal) (rest : List ℕ) : Aim → Type 0 where
+    missed : x ≡ length p + 1 → Placed p x w l rest misses
+    found : (t : Target) (left : List ℕ) → Stands p x (putTerm (t .term) left) → Hole w l rest t left → Placed p x w l rest (hits t)
 
--- A formed atom, its variables below w.
-abbrev Fits : ℕ → Atom → Type 0
-Fits w x = T (formedAtom 16 x) × (termsWidth (termsOf x) ≤ w)
+  -- A formed atom, its variables below w.
+  abbrev Fits : ℕ → Atom → Type 0
+  Fits w x = T (formedAtom depth x) × (termsWidth (termsOf x) ≤ w)
 
 -- A link's kind tells the link.
 link-number : (k : Link) → linkNumber k ≡ linkKind k
@@ -67,7 +68,7 @@ unfolding linkNumber
 link-number = elim [ Eq ↦ refl | Mem ↦ refl | Sub ↦ refl ]
 
 pub kind-link : (k l : Link) → linkKind k ≡ linkKind l → k ≡ l
-kind-link k l e = sym (link-back k) ∙ (ap linkAt (link-number k ∙ (e ∙ sym (link-number l))) ∙ link-back l)
+kind-link k l e = sym (link-back k) ∙ (ap nthLink (link-number k ∙ (e ∙ sym (link-number l))) ∙ link-back l)
 
 -- Links come before the other kinds.
 pub link-small : (k : Link) → linkKind k < 3
@@ -115,61 +116,63 @@ argument-written (suc k) (cons t ts) f rest = go (argument-written k ts inner re
     go absent = absent
     go (present a) = present (next a)
 
--- An argument is formed, and no wider than the terms that it is among.
-chosen-formed : {t : Term} {k : ℕ} {ts more : Terms} → Chosen t k ts more → T (formedTerms 16 ts) → T (formedTerm 16 t)
-unfolding formedTerms formedTerm depthOfs numbereds
-chosen-formed (first {ts}) h = let (m, n) = simp T-and at h in simp T-and (omega (arith, leb→le, le→leb), n .0)
-chosen-formed (next {a} {ts} p) h = let (m, n) = simp T-and at h in chosen-formed p (simp T-and (omega (arith, leb→le, le→leb), n .1))
+module _ (depth : ℕ) where
+  -- An argument is formed, and no wider than the terms that it is among.
+  chosen-formed : {t : Term} {k : ℕ} {ts more : Terms} → Chosen t k ts more → T (formedTerms depth ts) → T (formedTerm depth t)
+  unfolding formedTerms formedTerm depthOfs numbereds
+  chosen-formed (first {ts}) h = let (m, n) = simp T-and at h in simp T-and (omega (arith, leb→le, le→leb), n .0)
+  chosen-formed (next {a} {ts} p) h = let (m, n) = simp T-and at h in chosen-formed p (simp T-and (omega (arith, leb→le, le→leb), n .1))
 
 chosen-narrow : {t : Term} {k : ℕ} {ts more : Terms} → Chosen t k ts more → (us : Terms) → termWidth t ≤ termsWidth (join ts us)
 unfolding join termsWidth
 chosen-narrow first us = omega arith
 chosen-narrow (next p) us = omega (arith, chosen-narrow p us)
 
--- The targets in a link and in a signature.
-module _ (w : ℕ) (rest : List ℕ) where
-  second-hole : (l : Link) (t u : Term) → Fits w (link l t u) → Hole w (plus (link l t u)) rest (record { term = u; with = λ σ v. plus (link l (fill σ t) v) }) (word ")" (word ")" rest))
-  unfolding formedAtom termsOf termsWidth stack
-  second-hole l t u fits =
-      record {
-        formed = right (formedTerm 16 t) (formedTerm 16 u) (fits .0);
-        narrow = omega (arith, fits .1);
-        filled = λ f σ v entry new h. hole-second f σ w 16 16 entry v new Positive l t u (fits .0) (fits .1) rest h;
-      }
-
-  module _ (a : Arrow) (o m : Term) (ts : Terms) (r : Term) (fits : Fits w (method a o m ts (value r))) where
-    object-hole : Hole w (plus (method a o m ts (value r))) rest (record { term = o; with = λ σ u. plus (method a u (fill σ m) (fills σ ts) (value (fill σ r))) })
-        (word " " (putTerm m (word " " (putArguments ts (word " " (putResult (value r) (word ")" (word ")" rest))))))))
-    unfolding formedAtom termsOf termsWidth stack fillResult
-    object-hole =
-        let ((p, g), k) = simp T-and at (fits .0) in
+module _ (depth : ℕ) where
+  -- The targets in a link and in a signature.
+  module _ (w : ℕ) (rest : List ℕ) where
+    second-hole : (l : Link) (t u : Term) → Fits depth w (link l t u) → Hole depth w (plus (link l t u)) rest (record { term = u; with = λ σ v. plus (link l (fill σ t) v) }) (word ")" (word ")" rest))
+    unfolding formedAtom termsOf termsWidth
+    second-hole l t u fits =
         record {
-          formed = p .0;
+          formed = right (formedTerm depth t) (formedTerm depth u) (fits .0);
           narrow = omega (arith, fits .1);
-          filled = λ f σ u entry new h. hole-object f σ w 16 16 entry u new Positive a o m ts (value r) (fits .0) (fits .1) rest h;
+          filled = λ f σ v entry new h. rw (← stack-sum depth (itemDepth depth)) (hole-second f σ w depth depth entry v new Positive l t u (fits .0) (fits .1) rest h);
         }
 
-    argument-hole : {t : Term} {k : ℕ} {more : Terms} (c : Chosen t k ts more) →
-        Hole w (plus (method a o m ts (value r))) rest (record { term = t; with = λ σ u. plus (method a (fill σ o) (fill σ m) (replaced σ u c) (value (fill σ r))) })
-        (putTerms more (word ")" (word " " (putResult (value r) (word ")" (word ")" rest))))))
-    unfolding formedAtom termsOf termsWidth stack fillResult
-    argument-hole c =
-        let ((p, g), k) = simp T-and at (fits .0) in
-        record {
-          formed = chosen-formed c g;
-          narrow = omega (arith, fits .1, chosen-narrow c (resultTerms (value r)));
-          filled = λ f σ u entry new h. hole-argument f σ w 16 16 entry u new Positive a o m ts (value r) (fits .0) (fits .1) c rest h;
-        }
+    module _ (a : Arrow) (o m : Term) (ts : Terms) (r : Term) (fits : Fits depth w (method a o m ts (value r))) where
+      object-hole : Hole depth w (plus (method a o m ts (value r))) rest (record { term = o; with = λ σ u. plus (method a u (fill σ m) (fills σ ts) (value (fill σ r))) })
+          (word " " (putTerm m (word " " (putArguments ts (word " " (putResult (value r) (word ")" (word ")" rest))))))))
+      unfolding formedAtom termsOf termsWidth fillResult
+      object-hole =
+          let ((p, g), k) = simp T-and at (fits .0) in
+          record {
+            formed = p .0;
+            narrow = omega (arith, fits .1);
+            filled = λ f σ u entry new h. rw (← stack-sum depth (itemDepth depth)) (hole-object f σ w depth depth entry u new Positive a o m ts (value r) (fits .0) (fits .1) rest h);
+          }
 
-    result-hole : Hole w (plus (method a o m ts (value r))) rest (record { term = r; with = λ σ u. plus (method a (fill σ o) (fill σ m) (fills σ ts) (value u)) }) (word ")" (word ")" rest))
-    unfolding formedAtom formedResult termsOf resultTerms termsWidth stack
-    result-hole =
-        let ((p, g), k) = simp T-and at (fits .0) in
-        record {
-          formed = k;
-          narrow = omega (arith, fits .1, join-width ts (cons r nil));
-          filled = λ f σ u entry new h. hole-result f σ w 16 16 entry u new Positive a o m ts r (fits .0) (fits .1) rest h;
-        }
+      argument-hole : {t : Term} {k : ℕ} {more : Terms} (c : Chosen t k ts more) →
+          Hole depth w (plus (method a o m ts (value r))) rest (record { term = t; with = λ σ u. plus (method a (fill σ o) (fill σ m) (replaced σ u c) (value (fill σ r))) })
+          (putTerms more (word ")" (word " " (putResult (value r) (word ")" (word ")" rest))))))
+      unfolding formedAtom termsOf termsWidth fillResult
+      argument-hole c =
+          let ((p, g), k) = simp T-and at (fits .0) in
+          record {
+            formed = chosen-formed depth c g;
+            narrow = omega (arith, fits .1, chosen-narrow c (resultTerms (value r)));
+            filled = λ f σ u entry new h. rw (← stack-sum depth (itemDepth depth)) (hole-argument f σ w depth depth entry u new Positive a o m ts (value r) (fits .0) (fits .1) c rest h);
+          }
+
+      result-hole : Hole depth w (plus (method a o m ts (value r))) rest (record { term = r; with = λ σ u. plus (method a (fill σ o) (fill σ m) (fills σ ts) (value u)) }) (word ")" (word ")" rest))
+      unfolding formedAtom formedResult termsOf resultTerms termsWidth
+      result-hole =
+          let ((p, g), k) = simp T-and at (fits .0) in
+          record {
+            formed = k;
+            narrow = omega (arith, fits .1, join-width ts (cons r nil));
+            filled = λ f σ u entry new h. rw (← stack-sum depth (itemDepth depth)) (hole-result f σ w depth depth entry u new Positive a o m ts r (fits .0) (fits .1) rest h);
+          }
 
 -- st and mt are the signatures.
 signature-kind : (a : Arrow) → T (signature a) → (8 ≡ arrowKind a) ⊎ (9 ≡ arrowKind a)
@@ -203,7 +206,7 @@ module _ (p : List ℕ) where
   -- The object of a signature with a term result, from its atom on.
   abbrev signatureFrom : ℕ → ℕ
   signatureFrom at =
-      let o = orElse p (stripAt p (head 8) at) (stripAt p (head 9) at) in
+      let o = orPlace p (stripAt p (head 8) at) (stripAt p (head 9) at) in
       ifPlace p (stripAt p (bytes "(") (resultAt p o)) o
 
   past-signature : signatureFrom (length p + 1) ≡ length p + 1
@@ -243,91 +246,92 @@ module _ (p : List ℕ) where
   past-target Input k = ap (λ o. argumentAt p (nextAt p (nextAt p o)) k) past-object-at ∙ past-input k
   past-target Output k = ap (resultAt p) past-object-at ∙ past-result p
 
--- Where the targets of a literal stand.
-module _ (p : List ℕ) (w : ℕ) where
-  link-placed : (k : Link) {at : ℕ} (x : Atom) (rest : List ℕ) → Fits w x → Stands p at (putAtom x (word ")" rest)) → Placed p (nextAt p (stripAt p (head (linkKind k)) at)) w (plus x) rest (linkAim k x)
-  unfolding linkAim kindNumber afterHead
-  link-placed k {at} (link l t u) rest fits s = go (link? k l)
-    where
-      here : Link → Target
-      here k = record { term = u; with = λ σ v. plus (link k (fill σ t) v) }
+module _ (depth : ℕ) where
+  -- Where the targets of a literal stand.
+  module _ (p : List ℕ) (w : ℕ) where
+    link-placed : (k : Link) {at : ℕ} (x : Atom) (rest : List ℕ) → Fits depth w x → Stands p at (putAtom x (word ")" rest)) → Placed depth p (nextAt p (stripAt p (head (linkKind k)) at)) w (plus x) rest (linkAim k x)
+    unfolding linkAim kindNumber afterHead
+    link-placed k {at} (link l t u) rest fits s = go (link? k l)
+      where
+        here : Link → Target
+        here k = record { term = u; with = λ σ v. plus (link k (fill σ t) v) }
 
-      go : (d : Dec (k ≡ l)) → Placed p (nextAt p (stripAt p (head (linkKind k)) at)) w (plus (link l t u)) rest (ite d (hits (here k)) misses)
-      go (yes e) = rw e (found (here l) (word ")" (word ")" rest)) (next-term p t (head-stands p (link l t u) (word ")" rest) s)) (second-hole w rest l t u fits))
-      go (no e) = missed (link-past p k (link l t u) (word ")" rest) (λ h. e (kind-link k l h)) s)
-  link-placed k (obj t) rest fits s = missed (link-past p k (obj t) (word ")" rest) (link-object k) s)
-  link-placed k (method a o m ts r) rest fits s = missed (link-past p k (method a o m ts r) (word ")" rest) (link-arrow k a) s)
+        go : (d : Dec (k ≡ l)) → Placed depth p (nextAt p (stripAt p (head (linkKind k)) at)) w (plus (link l t u)) rest (ite d (hits (here k)) misses)
+        go (yes e) = rw e (found (here l) (word ")" (word ")" rest)) (next-term p t (head-stands p (link l t u) (word ")" rest) s)) (second-hole depth w rest l t u fits))
+        go (no e) = missed (link-past p k (link l t u) (word ")" rest) (λ h. e (kind-link k l h)) s)
+    link-placed k (obj t) rest fits s = missed (link-past p k (obj t) (word ")" rest) (link-object k) s)
+    link-placed k (method a o m ts r) rest fits s = missed (link-past p k (method a o m ts r) (word ")" rest) (link-arrow k a) s)
 
-  positive-placed : {at : ℕ} (l : Literal) (rest : List ℕ) (f : ℕ → ℕ) (g : Atom → Aim) → f (length p + 1) ≡ length p + 1 →
-      ((x : Atom) (at : ℕ) → Fits w x → Stands p at (putAtom x (word ")" rest)) → Placed p (f at) w (plus x) rest (g x)) →
-      Stands p at (putLiteral l rest) → T (formedLiteral 16 l) → width (l ∷ []) ≤ w → Placed p (f (positiveAt p at)) w l rest (positiveAim l g)
-  unfolding positiveAim formedLiteral width
-  positive-placed (lit Positive x) rest f g e h s i n = h x _ (i, omega arith) (positive-stands p x rest s)
-  positive-placed (lit Negative x) rest f g e h s i n = missed (ap f (negative-past p x rest s) ∙ e)
+    positive-placed : {at : ℕ} (l : Literal) (rest : List ℕ) (f : ℕ → ℕ) (g : Atom → Aim) → f (length p + 1) ≡ length p + 1 →
+        ((x : Atom) (at : ℕ) → Fits depth w x → Stands p at (putAtom x (word ")" rest)) → Placed depth p (f at) w (plus x) rest (g x)) →
+        Stands p at (putLiteral l rest) → T (formedLiteral depth l) → width (l ∷ []) ≤ w → Placed depth p (f (positiveAt p at)) w l rest (positiveAim l g)
+    unfolding positiveAim formedLiteral width
+    positive-placed (lit Positive x) rest f g e h s i n = h x _ (i, omega arith) (positive-stands p x rest s)
+    positive-placed (lit Negative x) rest f g e h s i n = missed (ap f (negative-past p x rest s) ∙ e)
 
-  -- What a literal at a place of p gives: where its target is.
-  abbrev pub Aimed : Rule → Type 0
-  Aimed rule = (at k : ℕ) (l : Literal) (rest : List ℕ) → Stands p at (putLiteral l rest) → T (formedLiteral 16 l) → width (l ∷ []) ≤ w → Placed p (targetAt p rule k at) w l rest (aim k rule l)
+    -- What a literal at a place of p gives: where its target is.
+    abbrev pub Aimed : Rule → Type 0
+    Aimed rule = (at k : ℕ) (l : Literal) (rest : List ℕ) → Stands p at (putLiteral l rest) → T (formedLiteral depth l) → width (l ∷ []) ≤ w → Placed depth p (targetAt p rule k at) w l rest (aim k rule l)
 
-  pub tra-placed : Aimed Tra
-  unfolding partAt firstAt aim
-  tra-placed at k l rest =
-      positive-placed l rest (λ at. nextAt p (stripAt p (head 2) at)) (linkAim Sub) (past-link p Sub) (λ x at i s. link-placed Sub x rest i s)
+    pub tra-placed : Aimed Tra
+    unfolding partAt firstAt aim
+    tra-placed at k l rest =
+        positive-placed l rest (λ at. nextAt p (stripAt p (head 2) at)) (linkAim Sub) (past-link p Sub) (λ x at i s. link-placed Sub x rest i s)
 
-  pub inc-placed : Aimed Inc
-  unfolding partAt firstAt aim
-  inc-placed at k l rest =
-      positive-placed l rest (λ at. nextAt p (stripAt p (head 1) at)) (linkAim Mem) (past-link p Mem) (λ x at i s. link-placed Mem x rest i s)
+    pub inc-placed : Aimed Inc
+    unfolding partAt firstAt aim
+    inc-placed at k l rest =
+        positive-placed l rest (λ at. nextAt p (stripAt p (head 1) at)) (linkAim Mem) (past-link p Mem) (λ x at i s. link-placed Mem x rest i s)
 
-  -- What is aimed at in a signature: where the object stands, the walk from there finds it.
-  method-placed : {at : ℕ} (x : Atom) (rest : List ℕ) (f : ℕ → ℕ) (g : Arrow → Term → Term → Terms → Term → Aim) → f (length p + 1) ≡ length p + 1 →
-      ((a : Arrow) (o m : Term) (ts : Terms) (r : Term) (at : ℕ) → Fits w (method a o m ts (value r)) → Stands p at (putTerm o (word " " (fromMethod p m ts (value r) (word ")" rest)))) →
-      Placed p (f at) w (plus (method a o m ts (value r))) rest (g a o m ts r)) →
-      Fits w x → Stands p at (putAtom x (word ")" rest)) → Placed p (f (signatureFrom p at)) w (plus x) rest (methodAim x g)
-  unfolding methodAim resultAim kindNumber afterHead
-  method-placed (link l t u) rest f g e h i s =
-      missed (ap f (other-signature p (link l t u) (word ")" rest) (λ w. link-arrow l St (sym w)) (λ w. link-arrow l Mt (sym w)) s) ∙ e)
-  method-placed (obj t) rest f g e h i s = missed (ap f (other-signature p (obj t) (word ")" rest) (λ w. omega arith) (λ w. omega arith) s) ∙ e)
-  method-placed {at} (method a o m ts r) rest f g e h i s = go (signature a) refl r i s
-    where
-      go : (b : Bool) → signature a ≡ b → (r : Result) → Fits w (method a o m ts r) → Stands p at (putAtom (method a o m ts r) (word ")" rest)) →
-          Placed p (f (signatureFrom p at)) w (plus (method a o m ts r)) rest (cond b (resultAim r (g a o m ts)) misses)
-      go true d (value r) i s =
-          let v = either-stands p 8 9 (method a o m ts (value r)) (word ")" rest) (omega arith) (signature-kind a (rw d tt)) s in
-          rw (object-of p o m ts r (word ")" rest) v) (h a o m ts r _ i v)
-      go true d none i s = missed (ap f (object-none p o m ts (word ")" rest) (either-stands p 8 9 (method a o m ts none) (word ")" rest) (omega arith) (signature-kind a (rw d tt)) s)) ∙ e)
-      go false d r i s = missed (ap f (other-signature p (method a o m ts r) (word ")" rest) (kind-signature a d .0) (kind-signature a d .1) s) ∙ e)
+    -- What is aimed at in a signature: where the object stands, the walk from there finds it.
+    method-placed : {at : ℕ} (x : Atom) (rest : List ℕ) (f : ℕ → ℕ) (g : Arrow → Term → Term → Terms → Term → Aim) → f (length p + 1) ≡ length p + 1 →
+        ((a : Arrow) (o m : Term) (ts : Terms) (r : Term) (at : ℕ) → Fits depth w (method a o m ts (value r)) → Stands p at (putTerm o (word " " (fromMethod p m ts (value r) (word ")" rest)))) →
+        Placed depth p (f at) w (plus (method a o m ts (value r))) rest (g a o m ts r)) →
+        Fits depth w x → Stands p at (putAtom x (word ")" rest)) → Placed depth p (f (signatureFrom p at)) w (plus x) rest (methodAim x g)
+    unfolding methodAim resultAim kindNumber afterHead
+    method-placed (link l t u) rest f g e h i s =
+        missed (ap f (other-signature p (link l t u) (word ")" rest) (λ w. link-arrow l St (sym w)) (λ w. link-arrow l Mt (sym w)) s) ∙ e)
+    method-placed (obj t) rest f g e h i s = missed (ap f (other-signature p (obj t) (word ")" rest) (λ w. omega arith) (λ w. omega arith) s) ∙ e)
+    method-placed {at} (method a o m ts r) rest f g e h i s = go (signature a) refl r i s
+      where
+        go : (b : Bool) → signature a ≡ b → (r : Result) → Fits depth w (method a o m ts r) → Stands p at (putAtom (method a o m ts r) (word ")" rest)) →
+            Placed depth p (f (signatureFrom p at)) w (plus (method a o m ts r)) rest (cond b (resultAim r (g a o m ts)) misses)
+        go true d (value r) i s =
+            let v = either-stands p 8 9 (method a o m ts (value r)) (word ")" rest) (omega arith) (signature-kind a (rw d tt)) s in
+            rw (object-of p o m ts r (word ")" rest) v) (h a o m ts r _ i v)
+        go true d none i s = missed (ap f (object-none p o m ts (word ")" rest) (either-stands p 8 9 (method a o m ts none) (word ")" rest) (omega arith) (signature-kind a (rw d tt)) s)) ∙ e)
+        go false d r i s = missed (ap f (other-signature p (method a o m ts r) (word ")" rest) (kind-signature a d .0) (kind-signature a d .1) s) ∙ e)
 
-  -- The three places that are aimed at in a signature.
-  pub inh-placed : Aimed Inh
-  unfolding partAt objectAt aim objectAim
-  inh-placed at k l rest =
-      positive-placed l rest (signatureFrom p) _ (past-signature p) (λ x at i s. method-placed x rest (λ o. o) objectAim refl (λ a o m ts r at i v. found _ _ v (object-hole w rest a o m ts r i)) i s)
+    -- The three places that are aimed at in a signature.
+    pub inh-placed : Aimed Inh
+    unfolding partAt objectAt aim objectAim
+    inh-placed at k l rest =
+        positive-placed l rest (signatureFrom p) _ (past-signature p) (λ x at i s. method-placed x rest (λ o. o) objectAim refl (λ a o m ts r at i v. found _ _ v (object-hole depth w rest a o m ts r i)) i s)
 
-  pub out-placed : Aimed Out
-  unfolding partAt objectAt aim outputAim putResult
-  out-placed at k l rest =
-      positive-placed l rest (λ at. resultAt p (signatureFrom p at)) _ (ap (resultAt p) (past-signature p) ∙ past-result p) (λ x at i s.
-      method-placed x rest (resultAt p) outputAim (past-result p) (λ a o m ts r at i v. found _ _ (result-stands p o m ts (value r) (word ")" rest) v) (result-hole w rest a o m ts r i)) i s)
+    pub out-placed : Aimed Out
+    unfolding partAt objectAt aim outputAim putResult
+    out-placed at k l rest =
+        positive-placed l rest (λ at. resultAt p (signatureFrom p at)) _ (ap (resultAt p) (past-signature p) ∙ past-result p) (λ x at i s.
+        method-placed x rest (resultAt p) outputAim (past-result p) (λ a o m ts r at i v. found _ _ (result-stands p o m ts (value r) (word ")" rest) v) (result-hole depth w rest a o m ts r i)) i s)
 
-  argument-placed : {at : ℕ} (k : ℕ) (a : Arrow) (o m : Term) (ts : Terms) (r : Term) (rest : List ℕ) → Fits w (method a o m ts (value r)) →
-      Stands p at (putArguments ts (word " " (putResult (value r) (word ")" (word ")" rest))))) → Placed p (argumentAt p at k) w (plus (method a o m ts (value r))) rest (inputAim k a o m ts r)
-  unfolding argumentAt inputAim
-  argument-placed {at} k a o m ts r rest i s = go (argument-item ts k _) (argument-written k ts _ _)
-    where
-      behind : List ℕ
-      behind = word " " (putResult (value r) (word ")" (word ")" rest)))
+    argument-placed : {at : ℕ} (k : ℕ) (a : Arrow) (o m : Term) (ts : Terms) (r : Term) (rest : List ℕ) → Fits depth w (method a o m ts (value r)) →
+        Stands p at (putArguments ts (word " " (putResult (value r) (word ")" (word ")" rest))))) → Placed depth p (argumentAt p at k) w (plus (method a o m ts (value r))) rest (inputAim k a o m ts r)
+    unfolding argumentAt inputAim
+    argument-placed {at} k a o m ts r rest i s = go (argument-item ts k _) (argument-written k ts _ _)
+      where
+        behind : List ℕ
+        behind = word " " (putResult (value r) (word ")" (word ")" rest)))
 
-      aimed : Argument → Aim
-      aimed g = hits (record { term = g .term; with = λ σ u. plus (method a (fill σ o) (fill σ m) (g .with σ u) (value (fill σ r))) })
+        aimed : Argument → Aim
+        aimed g = hits (record { term = g .term; with = λ σ u. plus (method a (fill σ o) (fill σ m) (g .with σ u) (value (fill σ r))) })
 
-      go : {q : Parsed (Unit {0})} {b : Aim} → toArgument k (putArguments ts behind) ≡ q → Written k ts (word ")" behind) aimed q b → Placed p (endOf p (toArgument k (drop at p))) w (plus (method a o m ts (value r))) rest b
-      go e absent = missed (walk-past p at (toArgument k) s e)
-      go e (present c) = found _ _ (walk-stands p at (argument-tail k) s e) (argument-hole w rest a o m ts r i c)
+        go : {q : Parsed (Unit {0})} {b : Aim} → toArgument k (putArguments ts behind) ≡ q → Written k ts (word ")" behind) aimed q b → Placed depth p (endOf p (toArgument k (drop at p))) w (plus (method a o m ts (value r))) rest b
+        go e absent = missed (walk-past p at (toArgument k) s e)
+        go e (present c) = found _ _ (walk-stands p at (argument-tail k) s e) (argument-hole depth w rest a o m ts r i c)
 
-  pub inp-placed : Aimed Inp
-  unfolding partAt objectAt aim
-  inp-placed at k l rest =
-      let f : ℕ → ℕ = λ o. argumentAt p (nextAt p (nextAt p o)) k in
-      positive-placed l rest (λ at. f (signatureFrom p at)) _ (ap f (past-signature p) ∙ past-input p k) (λ x at i s.
-      method-placed x rest f (inputAim k) (past-input p k) (λ a o m ts r at i v. argument-placed k a o m ts r rest i (next-term p m (next-term p o v))) i s)
+    pub inp-placed : Aimed Inp
+    unfolding partAt objectAt aim
+    inp-placed at k l rest =
+        let f : ℕ → ℕ = λ o. argumentAt p (nextAt p (nextAt p o)) k in
+        positive-placed l rest (λ at. f (signatureFrom p at)) _ (ap f (past-signature p) ∙ past-input p k) (λ x at i s.
+        method-placed x rest f (inputAim k) (past-input p k) (λ a o m ts r at i v. argument-placed k a o m ts r rest i (next-term p m (next-term p o v))) i s)

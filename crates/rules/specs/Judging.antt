@@ -1,3 +1,4 @@
+-- Nothing here is to be believed: `judge-meets` (proofs/JudgeMeets) says that on written clauses it is `judge` of the definitions.
 -- Checks 7 to 11 of a step in bytes, over the parts of the text that begin with its parents, and what the answer means.
 use Prim.Native.Nat.{ℕ, _≤_, _<_}
 use mathlib.Core.Path.{_≡_}
@@ -14,8 +15,8 @@ use Rattle.logic.specs.Each.{width}
 use Rattle.logic.specs.Rules.{uses}
 use Rattle.logic.specs.Judge.{judge}
 use Rattle.text.specs.Write.{putClause}
-use Rattle.text.specs.Form.{formedClause}
-use Rattle.text.specs.Read.{form, readLine}
+use Rattle.text.specs.Form.{formedClause, form}
+use Rattle.text.specs.Read.{readLine}
 use Rattle.lines.specs.declared.forms.LineAt.{LineAt}
 use Rattle.lines.specs.LineAt.{lineOf}
 use Rattle.parts.specs.Shapes.{placeAt, listAt}
@@ -24,11 +25,12 @@ use Rattle.table.specs.Uses.{parentNumbers, unusedNumbers}
 use Rattle.table.specs.Rows.{rowAt}
 use Rattle.rules.specs.Claim.{claimAt}
 
--- "A used parent's list has exactly its highest variable plus 1 terms (0 without variables); an unused one's has none, save for refl"
+-- R3: "The list of a used parent has exactly as many terms as the parent's highest variable plus 1, and 0 where it has no variable. The
+-- list of an unused parent has none, but for refl, whose first list has one term T."
 unfoldable pub listsAt : Rule → ℕ → ℕ → ℕ → ℕ → Bool
 listsAt rule firsts seconds v w = eqb firsts (cond (uses rule .a) v 1) && eqb seconds (cond (uses rule .b) w 0)
 
--- Check 11 comes after 9 and 10.
+-- V3: check 11 comes after 9 and 10.
 unfoldable pub thenClaim : Judged → Bool → Judged
 thenClaim Passed claimed = cond claimed Passed WrongClaim
 thenClaim NoParent claimed = NoParent
@@ -37,41 +39,49 @@ thenClaim Misshapen claimed = Misshapen
 thenClaim Disagrees claimed = Disagrees
 thenClaim WrongClaim claimed = WrongClaim
 
--- Checks 9 to 11. "the claim begins wherever the second list ends", at `pos`: it is the rest of the line, up to its end.
-unfoldable pub concludeAt : Rule → ℕ → List ℕ → ℕ → ℕ → List ℕ → List ℕ → List ℕ → ℕ → ℕ → List ℕ → ℕ → Judged
-concludeAt rule k p n i line starts q m j others pos =
+-- Checks 9 to 11 (V19 to V21). T9: the claim "begins wherever the second list ends", at `pos`: it is the rest of the line, up to its end.
+unfoldable pub concludeAt : ℕ → Rule → ℕ → List ℕ → ℕ → ℕ → List ℕ → List ℕ → List ℕ → ℕ → ℕ → List ℕ → ℕ → Judged
+concludeAt depth rule k p n i line starts q m j others pos =
     let x = placeAt p i in
     let y = placeAt q j in
     let rest = drop pos line in
-    thenClaim (rowAt rule k p x line starts q y others) (eqb (claimAt rule k p n i x line starts q m j y others rest) (length rest))
+    let claimed = eqb (claimAt depth rule k p n i x line starts q m j y others rest) (length rest) in
+    thenClaim (rowAt depth rule k p x line starts q y others) claimed
 
 -- Checks 7 and 8 come before.
 unfoldable pub settledAs : Bool → Bool → Judged → Judged
 settledAs parents numbers answer = cond parents (cond numbers answer WrongNumber) NoParent
 
--- A step, as it was read, over the parts of the text that begin with its parents; `own` is its own number. An unused parent has no literals.
--- "\"At I\" is in A, \"at J\" in B; for fac both are in A": where B is unused, A stands for it.
-unfoldable pub stepAt : ℕ → List ℕ → Size → List ℕ → Size → List ℕ → LineAt → Judged
-stepAt own p a q b line l =
-    let first = listAt line (l .first) in
-    let second = listAt line (l .second) in
+-- A clause without variables is filled by no places.
+unfoldable pub fillingPlaces : ℕ → List ℕ → List ℕ
+fillingPlaces width places = cond (eqb width 0) [] places
+
+-- A step, as it was read, over the parts of the text that begin with its parents; `own` is its own number. An unused parent has no
+-- literals. R5: "At I" is a position in A, "at J" one in B; for fac both are in A: where B is unused, A stands for it.
+unfoldable pub stepAt : ℕ → ℕ → List ℕ → Size → List ℕ → Size → List ℕ → LineAt → Judged
+stepAt depth own p a q b line l =
+    let first = fillingPlaces (cond (uses (l .rule) .a) (a .width) 1) (listAt line (l .first)) in
+    let second = fillingPlaces (b .width) (listAt line (l .second)) in
     let n = cond (uses (l .rule) .a) (a .literals) 0 in
-    let two = concludeAt (l .rule) (l .k) p n (l .i) line first q (b .literals) (l .j) second (l .clause) in
-    let one = concludeAt (l .rule) (l .k) p n (l .i) line first p 0 (l .j) first (l .clause) in
-    let numbers = unusedNumbers (l .rule) (l .a) (l .i) (l .b) (l .j) (l .k) && listsAt (l .rule) (l .firsts) (l .seconds) (a .width) (b .width) in
+    let two = concludeAt depth (l .rule) (l .k) p n (l .i) line first q (b .literals) (l .j) second (l .clause) in
+    let one = concludeAt depth (l .rule) (l .k) p n (l .i) line first p 0 (l .j) first (l .clause) in
+    let numbers =
+    unusedNumbers (l .rule) (l .a) (l .i) (l .b) (l .j) (l .k) && listsAt (l .rule) (l .firsts) (l .seconds) (a .width) (b .width) in
     settledAs (parentNumbers (l .rule) own (l .a) (l .b)) numbers (cond (uses (l .rule) .b) two one)
 
--- A part of a text that begins with a clause, formed; its number of literals and its width are these.
-pub record Holds (p : List ℕ) (s : Size) (c : Clause) : Type 0 where
+-- A part of a text that begins with a clause, formed, its terms at most so deep; its number of literals and its width are these.
+pub record HoldsClause (depth : ℕ) (p : List ℕ) (s : Size) (c : Clause) : Type 0 where
   pub rest : List ℕ
   pub written : p ≡ putClause c rest
-  pub formed : T (formedClause 16 c)
+  pub formed : T (formedClause depth c)
   pub literals : s .literals ≡ length c
   pub narrow : s .width ≡ width c
 
--- "A step passes checks 7 to 11 exactly when document 01's rules give its claim from its parents by its numbers under its two lists":
--- where the line is the step s, its lists within the limit, and the parts hold the clauses that it names, if there are such, the answer is `judge`.
-unfoldable pub Judges : ℕ → List ℕ → Size → List ℕ → Size → List ℕ → LineAt → Judged → Type 0
-Judges own p a q b line l r =
-    (cs : List Clause) (s : Step) (table : List ℕ) → own ≡ length cs → (s .a < length cs → Holds p a (getD cs (s .a) [])) → (s .b < length cs → Holds q b (getD cs (s .b) [])) →
-    l ≡ lineOf table line (form (by s)) → readLine 16 line ≡ form (by s) → count (s .first) ≤ 32 → count (s .second) ≤ 32 → r ≡ judge cs s
+-- V22, "A step passes checks 7 to 11 exactly when the rules give its claim from its parents by its numbers under its two lists": where the
+-- line is the step s, its lists within the limit, and the parts hold the clauses that it names, if there are such, the answer is `judge`.
+unfoldable pub Judges : ℕ → ℕ → List ℕ → Size → List ℕ → Size → List ℕ → LineAt → Judged → Type 0
+Judges depth own p a q b line l r =
+    (cs : List Clause) (s : Step) (table : List ℕ) → own ≡ length cs →
+    (s .a < length cs → HoldsClause depth p a (getD cs (s .a) [])) → (s .b < length cs → HoldsClause depth q b (getD cs (s .b) [])) →
+    l ≡ lineOf table line (form (by s)) → readLine depth line ≡ form (by s) →
+    count (s .first) ≤ 32 → count (s .second) ≤ 32 → r ≡ judge cs s

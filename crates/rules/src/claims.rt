@@ -1,5 +1,6 @@
 // Check 11: the fourth column of the rule table, and the claim as a whole. `rest` is the rest of the line from the claim on.
 use filling::claims::Hole;
+use filling::claims::Terms;
 use filling::claims::begin;
 use filling::claims::ends;
 use filling::claims::equated;
@@ -15,8 +16,10 @@ ghost use Rattle.text.specs.Words.{bytes};
 ghost use Rattle.parts.specs.Shapes.{stripAt};
 ghost use Rattle.rules.specs.Claim.{newBy, claimBy};
 
-// What the claim keeps: of A's first `a` literals all but literal i, of B's first `b` all but literal j.
+// What the claim keeps, of terms that nest at most `depth` deep: of A's first `a` literals all but literal i, of B's first `b` all but
+// literal j.
 pub struct Kept {
+    pub depth: u8,
     pub a: usize,
     pub i: usize,
     pub b: usize,
@@ -25,6 +28,7 @@ pub struct Kept {
 
 // The beginning of the claim and the new literal, if any: the place past them.
 fn new_literal(
+    depth: u8,
     f: Found,
     a: &[u8],
     first: &[usize],
@@ -33,11 +37,13 @@ fn new_literal(
     line: &[u8],
     rest: &[u8],
 ) -> usize
-    ensures { λ r. ⌜ r ≡ newBy (f .kind) f (now (a .entry)) (now (line .entry)) (now (first .entry)) (now (b .entry)) (now (second .entry)) (now (rest .entry)) (stripAt (now (rest .entry)) (bytes "(or") 0) ⌝ }
+    ensures { λ r.
+        ⌜ r ≡ newBy depth (f .kind) f (now (a .entry)) (now (line .entry)) (now (first .entry)) (now (b .entry))
+        (now (second .entry)) (now (rest .entry)) (stripAt (now (rest .entry)) (bytes "(or") 0) ⌝ }
 {
     let kind = f.kind;
     match kind {
-        Kind::Reflexivity => reflexive(line, first, rest),
+        Kind::Reflexivity => reflexive(depth, line, first, rest),
         Kind::Resolution => begin(rest),
         Kind::Factoring => begin(rest),
         Kind::Rewriting => {
@@ -46,10 +52,22 @@ fn new_literal(
                 term: f.left,
                 from: f.other,
             };
-            rewritten(a, first, b, second, line, rest, hole)
+            rewritten(depth, a, first, b, second, line, rest, hole)
         }
-        Kind::Acyclicity => equated(a, f.left, line, first, a, f.more, first, rest),
-        Kind::Scalarity => equated(a, f.more, line, first, b, f.other, second, rest),
+        Kind::Acyclicity => {
+            let terms = Terms {
+                left: f.left,
+                right: f.more,
+            };
+            equated(depth, a, first, a, first, line, rest, terms)
+        }
+        Kind::Scalarity => {
+            let terms = Terms {
+                left: f.more,
+                right: f.other,
+            };
+            equated(depth, a, first, b, second, line, rest, terms)
+        }
         Kind::Elimination => begin(rest),
     }
 }
@@ -65,10 +83,12 @@ pub fn claimed(
     line: &[u8],
     rest: &[u8],
 ) -> bool
-    ensures { λ r. ⌜ r ≡ eqb (claimBy f kept (now (a .entry)) (now (line .entry)) (now (first .entry)) (now (b .entry)) (now (second .entry)) (now (rest .entry))) (length (now (rest .entry))) ⌝ }
+    ensures { λ r.
+        ⌜ r ≡ eqb (claimBy f kept (now (a .entry)) (now (line .entry)) (now (first .entry)) (now (b .entry))
+        (now (second .entry)) (now (rest .entry))) (length (now (rest .entry))) ⌝ }
 {
-    let new = new_literal(f, a, first, b, second, line, rest);
-    let middle = others(a, kept.a, kept.i, line, first, rest, new);
-    let last = others(b, kept.b, kept.j, line, second, rest, middle);
+    let new = new_literal(kept.depth, f, a, first, b, second, line, rest);
+    let middle = others(kept.depth, a, kept.a, kept.i, line, first, rest, new);
+    let last = others(kept.depth, b, kept.b, kept.j, line, second, rest, middle);
     ends(rest, last)
 }

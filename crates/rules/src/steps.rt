@@ -20,7 +20,7 @@ use table::uses::used;
 ghost use mathlib.Core.Path.{_≡_};
 ghost use Rattle.table.specs.Rows.{answer};
 ghost use Rattle.rules.specs.Claim.{droppedAt};
-ghost use Rattle.rules.specs.Judging.{listsAt, thenClaim, concludeAt, settledAs, stepAt, Judges};
+ghost use Rattle.rules.specs.Judging.{listsAt, thenClaim, concludeAt, settledAs, fillingPlaces, stepAt, Judges};
 
 // Of a parent its number of literals, and its highest variable plus 1.
 pub struct Size {
@@ -28,7 +28,13 @@ pub struct Size {
     pub width: usize,
 }
 
-// The second part of check 8: "a list has the wrong length".
+// The numbers of literals of A and B; an unused one has none.
+struct Literals {
+    a: usize,
+    b: usize,
+}
+
+// The second part of check 8 (V18): "a list has the wrong length".
 fn lists_fit(rule: Rule, firsts: usize, seconds: usize, v: usize, w: usize) -> bool
     ensures { λ r. ⌜ r ≡ listsAt rule firsts seconds v w ⌝ }
 {
@@ -64,32 +70,36 @@ fn judged(shaped: bool, agreed: bool, claims: bool) -> Judged
     }
 }
 
-// Checks 9 to 11 of a step, over its parents of n and m literals and its lists.
+// Checks 9 to 11 of a step, over its parents with their numbers of literals and its lists.
 fn conclude(
+    depth: u8,
     l: LineAt,
     a: &[u8],
-    n: usize,
     first: &[usize],
     b: &[u8],
-    m: usize,
     second: &[usize],
     line: &[u8],
+    literals: Literals,
 ) -> Judged
-    ensures { λ r. ⌜ r ≡ concludeAt (l .rule) (l .k) (now (a .entry)) n (l .i) (now (line .entry)) (now (first .entry)) (now (b .entry)) m (l .j) (now (second .entry)) (l .clause) ⌝ }
+    ensures { λ r.
+        ⌜ r ≡ concludeAt depth (l .rule) (l .k) (now (a .entry)) (literals .a) (l .i) (now (line .entry))
+        (now (first .entry)) (now (b .entry)) (literals .b) (l .j) (now (second .entry)) (l .clause) ⌝ }
 {
     let rule = l.rule;
     let x = literal(a, l.i);
     let y = literal(b, l.j);
     let f = find(table_row(rule), l.k, a, x, b, y);
     let kept = Kept {
-        a: n,
+        depth,
+        a: literals.a,
         i: dropped(used(rule, 2), a, x, l.i, l.j),
-        b: m,
+        b: literals.b,
         j: l.j,
     };
     let rest = clause_part(line, l.clause);
     let claims = claimed(f, kept, a, first, b, second, line, rest);
-    judged(f.shaped, agrees(f, a, first, b, second, line), claims)
+    let agreed = agrees(depth, f, a, first, b, second, line);
+    judged(f.shaped, agreed, claims)
 }
 
 // Checks 7 and 8 come before.
@@ -103,9 +113,20 @@ fn settled(parents: bool, numbers: bool, answer: Judged) -> Judged
     }
 }
 
+// The places of a list that fills a clause of this width: none where it has no variables.
+fn filling(width: usize, places: &[usize]) -> &[usize]
+    ensures { λ r. ⌜ now r ≡ fillingPlaces width (now (places .entry)) ⌝ }
+{
+    if width == 0 {
+        return &places[0..0];
+    }
+    places
+}
+
 // Checks 7 to 11 of a step that was read, over the parts of the text that begin with the clauses that it names as A and B; `own` is its own
-// number. Where B is unused, A stands for it.
+// number. Where B is unused, A stands for it. Terms of these clauses nest at most `depth` deep.
 pub fn judge(
+    depth: u8,
     own: usize,
     a: &[u8],
     of_a: Size,
@@ -114,20 +135,28 @@ pub fn judge(
     line: &[u8],
     l: LineAt,
 ) -> Judged
-    ensures { λ r. ⌜ r ≡ stepAt own (now (a .entry)) «of_a» (now (b .entry)) «of_b» (now (line .entry)) l ⌝ }
-    ensures { λ r. ⌜ Judges own (now (a .entry)) «of_a» (now (b .entry)) «of_b» (now (line .entry)) l r ⌝ }
+    ensures { λ r. ⌜ r ≡ stepAt depth own (now (a .entry)) «of_a» (now (b .entry)) «of_b» (now (line .entry)) l ⌝ }
+    ensures { λ r. ⌜ Judges depth own (now (a .entry)) «of_a» (now (b .entry)) «of_b» (now (line .entry)) l r ⌝ }
+    ensures { λ _. ⌜ (now (a .exit) ≡ now (a .entry)) × (now (b .exit) ≡ now (b .entry)) × (now (line .exit) ≡ now (line .entry)) ⌝ }
 {
     let rule = l.rule;
-    let first = list(line, l.first);
-    let second = list(line, l.second);
     let zero = unused_zero(rule, l.a, l.i, l.b, l.j, l.k);
     let fit = lists_fit(rule, l.firsts, l.seconds, of_a.width, of_b.width);
     let below = parents_below(rule, own, l.a, l.b);
     let n = choose(used(rule, 0), of_a.literals, 0);
+    let firsts = list(line, l.first);
+    let first = filling(choose(used(rule, 0), of_a.width, 1), &firsts);
     if used(rule, 2) {
-        let two = conclude(l, a, n, &first, b, of_b.literals, &second, line);
-        return settled(below, both(zero, fit), two);
+        let seconds = list(line, l.second);
+        let second = filling(of_b.width, &seconds);
+        let two = Literals {
+            a: n,
+            b: of_b.literals,
+        };
+        let answer = conclude(depth, l, a, first, b, second, line, two);
+        return settled(below, both(zero, fit), answer);
     }
-    let one = conclude(l, a, n, &first, a, 0, &first, line);
-    settled(below, both(zero, fit), one)
+    let one = Literals { a: n, b: 0 };
+    let answer = conclude(depth, l, a, first, a, first, line, one);
+    settled(below, both(zero, fit), answer)
 }

@@ -1,2 +1,3 @@
 pub mod Digits
 pub mod Choices
+pub mod Prefixes

@@ -1,3 +1,4 @@
+-- Nothing here is to be believed: it mirrors code on bytes, and `check` promises the verdict of the definitions.
 -- A number and the place where it ends.
 use Prim.Native.Nat.{ℕ}
 use mathlib.Core.List.{List}

@@ -1,3 +1,4 @@
+-- Nothing here is to be believed: it mirrors code on bytes, and `check` promises the verdict of the definitions.
 -- The word of a table that stands at a place: its end, and which it is.
 use Prim.Native.Nat.{ℕ, _+_}
 use mathlib.Core.Bool.{cond}
@@ -17,8 +18,8 @@ use Rattle.scan.specs.declared.tables.LinkAt.{LinkAt}
 use Rattle.scan.specs.declared.tables.ArrowAt.{ArrowAt}
 use Rattle.scan.specs.declared.tables.RuleAt.{RuleAt}
 use Rattle.scan.specs.declared.tables.SignAt.{SignAt}
-use Rattle.text.specs.Words.{linkWord, links, arrowWord, arrows}
-use Rattle.text.specs.Read.{Parsed, bad, got, Reader, return, strip, oneOf, each}
+use Rattle.text.specs.Read.{links, arrows, Parsed, bad, got, Reader, return, strip, oneOf, each}
+use Rattle.text.specs.Words.{linkWord, arrowWord}
 use Rattle.text.specs.Places.{endOf, readOr}
 
 -- The words of the atoms: `eq`, `mem`, `sub`; `sv` to `mt`.

@@ -2,8 +2,6 @@
 ghost use mathlib.Core.Path.{_≡_};
 ghost use Rattle.text.specs.Kinds.{kindOf};
 
-pub const DIGIT: u8 = 0;
-
 // The values of a byte.
 const VALUES: usize = 256;
 

@@ -1,5 +1,5 @@
 // Finding words, numbers and lines in bytes. The definitions are in specs/ and in the crate `text`.
-mod kinds;
+pub mod kinds;
 pub mod numbers;
 pub mod tables;
 pub mod texts;

@@ -1,10 +1,9 @@
 // Numbers N.
-use crate::kinds::DIGIT;
-use crate::kinds::kind;
 ghost use mathlib.Core.Path.{_≡_};
 ghost use Prim.Native.Nat.{_≤_};
 ghost use lib.ListN.{length, drop};
-ghost use Rattle.text.specs.Read.{goesOn, readNumber, readDigits};
+ghost use Rattle.text.specs.Form.{maxNumber};
+ghost use Rattle.text.specs.Read.{goesOn, readNumber, readDigits, digit as isDigit};
 ghost use Rattle.scan.specs.Numbers.{numberAt};
 
 // The largest number N.
@@ -13,6 +12,12 @@ const LARGEST: usize = 65535;
 pub struct NumberAt {
     pub end: usize,
     pub value: usize,
+}
+
+fn digit(b: u8) -> bool
+    ensures { λ r. ⌜ r ≡ isDigit b ⌝ }
+{
+    if b < b'0' { false } else { b <= b'9' }
 }
 
 // Whether a digit may follow n and make it `further`.
@@ -27,14 +32,14 @@ fn goes_on(n: usize, further: usize) -> bool
 
 // The digits after those read, whose value is `first`.
 fn digits(s: &[u8], at: usize, first: usize) -> NumberAt
-    requires { ⌜ (at ≤ length (now s)) × (first ≤ 65535) ⌝ }
+    requires { ⌜ (at ≤ length (now s)) × (first ≤ maxNumber) ⌝ }
     ensures { λ r. ⌜ r ≡ numberAt (now (s .entry)) (readDigits first (drop at (now (s .entry)))) ⌝ }
 {
     let n = s.len();
     let mut value = first;
     let mut i = at;
     while i < n {
-        if kind(s[i]) != DIGIT {
+        if !digit(s[i]) {
             return NumberAt { end: i, value };
         }
         let next = value * 10 + (s[i] - b'0') as usize;
@@ -52,6 +57,7 @@ fn digits(s: &[u8], at: usize, first: usize) -> NumberAt
 
 pub fn number(s: &[u8], at: usize) -> NumberAt
     ensures { λ r. ⌜ r ≡ numberAt (now (s .entry)) (readNumber (drop at (now (s .entry)))) ⌝ }
+    ensures { λ _. ⌜ now (s .exit) ≡ now (s .entry) ⌝ }
 {
     if at >= s.len() {
         return NumberAt {
@@ -59,7 +65,7 @@ pub fn number(s: &[u8], at: usize) -> NumberAt
             value: 0,
         };
     }
-    if kind(s[at]) != DIGIT {
+    if !digit(s[at]) {
         return NumberAt {
             end: s.len() + 1,
             value: 0,

@@ -65,6 +65,7 @@ const LINKS: [Link; 4] = [Link::Eq, Link::Mem, Link::Sub, Link::Sub];
 
 pub fn link(s: &[u8], at: usize) -> LinkAt
     ensures { λ r. ⌜ r ≡ linkAt (now (s .entry)) (readLinkWord (drop at (now (s .entry)))) ⌝ }
+    ensures { λ _. ⌜ now (s .exit) ≡ now (s .entry) ⌝ }
 {
     let w = which(s, at, b"eq mem sub ");
     let n = w.number;
@@ -84,6 +85,7 @@ const ARROWS: [Arrow; 7] = [
 
 pub fn arrow(s: &[u8], at: usize) -> ArrowAt
     ensures { λ r. ⌜ r ≡ arrowAt (now (s .entry)) (readArrowWord (drop at (now (s .entry)))) ⌝ }
+    ensures { λ _. ⌜ now (s .exit) ≡ now (s .entry) ⌝ }
 {
     let w = which(s, at, b"sv si mv mi st mt ");
     let n = w.number;
@@ -109,6 +111,7 @@ const RULES: [Rule; 13] = [
 
 pub fn rule(s: &[u8], at: usize) -> RuleAt
     ensures { λ r. ⌜ r ≡ ruleAt (now (s .entry)) (readRule (drop at (now (s .entry)))) ⌝ }
+    ensures { λ _. ⌜ now (s .exit) ≡ now (s .entry) ⌝ }
 {
     let w = which(s, at, b"refl res fac par acy tra inc inh inp out sca eli ");
     let n = w.number;
@@ -120,6 +123,7 @@ const SIGNS: [Sign; 3] = [Sign::Positive, Sign::Negative, Sign::Negative];
 
 pub fn sign(s: &[u8], at: usize) -> SignAt
     ensures { λ r. ⌜ r ≡ signAt (now (s .entry)) (readSign (drop at (now (s .entry)))) ⌝ }
+    ensures { λ _. ⌜ now (s .exit) ≡ now (s .entry) ⌝ }
 {
     let w = which(s, at, b"+ - ");
     let n = w.number;

@@ -1,16 +1,11 @@
 // The text as a whole: its size, its lines and its parts.
+use text::Figures;
 ghost use Prim.Native.Nat.{_+_, _≤_};
 ghost use mathlib.Core.Path.{_≡_};
 ghost use mathlib.Core.Bool.{true};
 ghost use lib.ListN.{length, drop};
-ghost use Rattle.text.specs.Figures.{office};
-ghost use Rattle.text.specs.Size.{lineLength, lineEndAt, lineCount, tooLarge};
-
-// Bytes of a text.
-pub const BYTES: usize = 65535;
-
-// Lines of a text.
-const LINES: usize = 1024;
+ghost use Rattle.text.specs.Size.{lineCount, lineLength, lineEndAt};
+ghost use Rattle.text.specs.Split.{tooLarge};
 
 const LINE_END: u8 = b'\n';
 
@@ -36,7 +31,9 @@ fn clear(text: &[u8], at: usize) -> bool
 // A place at or before the first line end, by steps of 16 bytes.
 fn near(text: &[u8], at: usize) -> usize
     requires { ⌜ at ≤ length (now text) ⌝ }
-    ensures { λ r. ⌜ (r ≤ length (now (text .entry))) × (r + lineLength (drop r (now (text .entry))) ≡ at + lineLength (drop at (now (text .entry)))) ⌝ }
+    ensures { λ r.
+        ⌜ (r ≤ length (now (text .entry))) × (r + lineLength (drop r (now (text .entry))) ≡ at + lineLength
+        (drop at (now (text .entry)))) ⌝ }
 {
     let n = text.len();
     let mut i = at;
@@ -52,6 +49,7 @@ fn near(text: &[u8], at: usize) -> usize
 // The place of the first line end at or after `at`, or the end of the text.
 pub fn line_end(text: &[u8], at: usize) -> usize
     ensures { λ r. ⌜ r ≡ lineEndAt (now (text .entry)) at ⌝ }
+    ensures { λ _. ⌜ now (text .exit) ≡ now (text .entry) ⌝ }
 {
     let n = text.len();
     if at >= n {
@@ -69,10 +67,9 @@ pub fn line_end(text: &[u8], at: usize) -> usize
 
 // The number of lines: the line ends, and one more for bytes after the last of them.
 fn lines(text: &[u8]) -> usize
-    requires { ⌜ length (now text) ≤ 65535 ⌝ }
     ensures { λ r. ⌜ r ≡ lineCount (now (text .entry)) ⌝ }
 {
-    let mut count: u16 = 0;
+    let mut count = 0;
     let mut begun = false;
     let mut i = 0;
     while i < text.len() {
@@ -84,23 +81,24 @@ fn lines(text: &[u8]) -> usize
         }
         i += 1;
     }
-    let ended = count as usize;
-    if begun { ended + 1 } else { ended }
+    if begun { count + 1 } else { count }
 }
 
-// Check 1.
-pub fn too_large(text: &[u8]) -> bool
-    ensures { λ r. ⌜ r ≡ tooLarge office (now (text .entry)) ⌝ }
+// Check 1, by the figures given.
+pub fn too_large(text: &[u8], figures: Figures) -> bool
+    ensures { λ r. ⌜ r ≡ tooLarge figures (now (text .entry)) ⌝ }
+    ensures { λ _. ⌜ now (text .exit) ≡ now (text .entry) ⌝ }
 {
-    if text.len() > BYTES {
+    if text.len() > figures.bytes {
         return true;
     }
-    lines(text) > LINES
+    lines(text) > figures.lines
 }
 
 // The part of the text from `start` on.
 pub fn clause_part(text: &[u8], start: usize) -> &[u8]
     ensures { λ r. ⌜ now r ≡ drop start (now (text .entry)) ⌝ }
+    ensures { λ _. ⌜ now (text .exit) ≡ now (text .entry) ⌝ }
 {
     let n = text.len();
     let from = if start < n { start } else { n };

@@ -1,3 +1,4 @@
+-- Nothing here is to be believed: `judge-meets` (crates/rules/proofs/JudgeMeets) says what it gives on written clauses.
 -- Checks 9 and 10 in bytes: the rule table, row by row. The literals at I and J begin at the places i of p and j of q.
 use Prim.Native.Nat.{ℕ, _+_}
 use mathlib.Core.Bool.{Bool, true, false, cond, not, _&&_}
@@ -20,7 +21,8 @@ use Rattle.parts.specs.Shapes.{within}
 use Rattle.filling.specs.Covers.{coversAt}
 use Rattle.parts.specs.Shapes.{sameSignAt, atomAt, sameArrowAt}
 use Rattle.table.specs.declared.rows.Kind.{Kind}
-use Rattle.table.specs.declared.rows.Kind.the-variants.{Reflexivity, Resolution, Factoring, Rewriting, Acyclicity, Scalarity, Elimination}
+use Rattle.table.specs.declared.rows.Kind.the-variants.{Reflexivity, Resolution, Factoring, Rewriting}
+use Rattle.table.specs.declared.rows.Kind.the-variants.{Acyclicity, Scalarity, Elimination}
 use Rattle.table.specs.declared.rows.Target.{Target}
 use Rattle.table.specs.declared.rows.Target.the-variants.{Nothing, Occurrence, Subclass, Member, Object, Argument, Result}
 use Rattle.table.specs.declared.rows.Row.{Row}
@@ -29,8 +31,8 @@ use Rattle.table.specs.declared.rows.Found.{Found}
 abbrev row : Kind → Target → Link → Bool → Row
 row kind target link forward = record { kind = kind; target = target; link = link; forward = forward }
 
--- What a rule asks of its literals; of a rewriting rule the term of the literal at I that it replaces, the link at J, and whether the link's
--- first term agrees and its second takes the term's place, or the other way round.
+-- R8 to R19: what a rule asks of its literals; of a rewriting rule the term of the literal at I that it replaces, the link at J, and
+-- whether the link's first term agrees and its second takes the term's place, or the other way round.
 abbrev pub rowOf : Rule → Row
 rowOf Refl = row Reflexivity Nothing Sub true
 rowOf Res = row Resolution Nothing Sub true
@@ -45,8 +47,8 @@ rowOf Out = row Rewriting Result Sub true
 rowOf Sca = row Scalarity Nothing Sub true
 rowOf Eli = row Elimination Nothing Sub true
 
--- The term that a rewriting rule replaces: "term occurrence K", "counted from 0 in the literal at I before filling"; the second term of + sub or
--- + mem; "+ st or mt with object P and a term result", "argument K", "a term result R".
+-- The term that a rewriting rule replaces. R11, R20: "term occurrence K", "counted from 0 in the literal at I as it is before filling".
+-- R13, R14: the second term of + sub or + mem. R15 to R17: "+ st or mt with object P and a term result", "argument K", "a term result R".
 unfoldable pub partAt : Target → ℕ → List ℕ → ℕ → ℕ
 partAt Nothing k p at = length p + 1
 partAt Occurrence k p at = endOf p (toOccurrence k (drop at p))
@@ -59,23 +61,32 @@ partAt Result k p at = resultAt p (objectAt p (bytes "(st ") (bytes "(mt ") at)
 abbrev pub targetAt : List ℕ → Rule → ℕ → ℕ → ℕ
 targetAt p rule k at = partAt (rowOf rule .target) k p at
 
--- "refl | no parent"; "eli | A only; - obj(P) at I": no term has to agree.
+-- R8, refl: "no parent". R19, eli: "A only; - obj(P) at I". No term has to agree.
 abbrev pub denying : Kind → Bool → ℕ → Found
 denying kind shaped i = record { kind = kind; shaped = shaped; arrows = true; literal = i; left = 0; more = 0; right = 0; other = 0 }
 
--- "res | - L at I, + L' at J": the two atoms.
+-- R9, res, "- L, + L'": the two atoms.
 unfoldable pub resolved : List ℕ → ℕ → List ℕ → ℕ → Found
 resolved p i q j =
     let x = negativeAt p i in
     let y = positiveAt q j in
     record { kind = Resolution; shaped = within p x && within q y; arrows = true; literal = i; left = x; more = 0; right = y; other = 0 }
 
--- "fac | A only; I, J differ, same sign": q is p.
+-- R10, fac, "A only; I and J differ, both literals have the same sign": q is p.
 unfoldable pub factored : List ℕ → ℕ → List ℕ → ℕ → Found
 factored p i q j =
-    record { kind = Factoring; shaped = not (eqb i j) && sameSignAt p i q j; arrows = true; literal = i; left = atomAt p i; more = 0; right = atomAt q j; other = 0 }
+    record {
+      kind = Factoring;
+      shaped = not (eqb i j) && sameSignAt p i q j;
+      arrows = true;
+      literal = i;
+      left = atomAt p i;
+      more = 0;
+      right = atomAt q j;
+      other = 0;
+    }
 
--- par, tra, inc, inh, inp, out: the term, the side of the link that has to agree with it, and the other side.
+-- R11, R13 to R17, par, tra, inc, inh, inp, out: the term, the side of the link that has to agree with it, and the other side.
 unfoldable pub replaced : Row → ℕ → List ℕ → ℕ → List ℕ → ℕ → Found
 replaced r k p i q j =
     let x = partAt (r .target) k p i in
@@ -91,21 +102,39 @@ replaced r k p i q j =
       other = cond (r .forward) (nextAt q y) y;
     }
 
--- "acy | + sub(P,Q), + sub(Q',P')": P and Q, P' and Q'.
+-- R12, acy, "+ sub(P,Q), + sub(Q',P')": P and Q, P' and Q'.
 unfoldable pub crossed : List ℕ → ℕ → List ℕ → ℕ → Found
 crossed p i q j =
     let x = firstAt p (head (linkKind Sub)) i in
     let y = firstAt q (head (linkKind Sub)) j in
-    record { kind = Acyclicity; shaped = within p (nextAt p x) && within q (nextAt q y); arrows = true; literal = i; left = x; more = nextAt p x; right = nextAt q y; other = y }
+    record {
+      kind = Acyclicity;
+      shaped = within p (nextAt p x) && within q (nextAt q y);
+      arrows = true;
+      literal = i;
+      left = x;
+      more = nextAt p x;
+      right = nextAt q y;
+      other = y;
+    }
 
--- "sca | two + sv or si atoms, results R, R'": the objects and the results, and whether the arrow is the same.
+-- R18, sca, "+ sv or si with result R, + sv or si with result R'": the objects and the results, and whether the arrow is the same.
 unfoldable pub called : List ℕ → ℕ → List ℕ → ℕ → Found
 called p i q j =
     let x = objectAt p (bytes "(sv ") (bytes "(si ") i in
     let y = objectAt q (bytes "(sv ") (bytes "(si ") j in
-    record { kind = Scalarity; shaped = within p x && within q y; arrows = sameArrowAt p i q j; literal = i; left = x; more = resultAt p x; right = y; other = resultAt q y }
+    record {
+      kind = Scalarity;
+      shaped = within p x && within q y;
+      arrows = sameArrowAt p i q j;
+      literal = i;
+      left = x;
+      more = resultAt p x;
+      right = y;
+      other = resultAt q y;
+    }
 
--- The second column: "A position, sign, atom kind, result, K or pair I, J".
+-- The shape (V19): "a position, sign, kind of atom, result, K, or pair I, J".
 unfoldable pub foundBy : Kind → Row → ℕ → List ℕ → ℕ → List ℕ → ℕ → Found
 foundBy Reflexivity r k p i q j = denying Reflexivity true i
 foundBy Resolution r k p i q j = resolved p i q j
@@ -118,21 +147,22 @@ foundBy Elimination r k p i q j = denying Elimination (within p (stripAt p (byte
 abbrev pub foundAt : Rule → ℕ → List ℕ → ℕ → List ℕ → ℕ → Found
 foundAt rule k p i q j = foundBy (rowOf rule .kind) (rowOf rule) k p i q j
 
--- The third column: "agreement, filled".
-unfoldable pub agreesBy : Kind → Found → List ℕ → List ℕ → List ℕ → List ℕ → List ℕ → Bool
-agreesBy Reflexivity f p line starts q others = true
-agreesBy Resolution f p line starts q others = coversAt p (f .left) line starts q (f .right) others
-agreesBy Factoring f p line starts q others = coversAt p (f .left) line starts q (f .right) others
-agreesBy Rewriting f p line starts q others = agreeAt p (f .left) line starts q (f .right) others
-agreesBy Acyclicity f p line starts q others = agreeAt p (f .left) line starts q (f .right) others && agreeAt p (f .more) line starts q (f .other) others
-agreesBy Scalarity f p line starts q others = callsAt (f .arrows) p (f .left) line starts q (f .right) others
-agreesBy Elimination f p line starts q others = true
+-- The "agreement, filled" (V20), of terms that nest at most so deep.
+unfoldable pub agreesBy : ℕ → Kind → Found → List ℕ → List ℕ → List ℕ → List ℕ → List ℕ → Bool
+agreesBy depth Reflexivity f p line starts q others = true
+agreesBy depth Resolution f p line starts q others = coversAt depth p (f .left) line starts q (f .right) others
+agreesBy depth Factoring f p line starts q others = coversAt depth p (f .left) line starts q (f .right) others
+agreesBy depth Rewriting f p line starts q others = agreeAt depth p (f .left) line starts q (f .right) others
+agreesBy depth Acyclicity f p line starts q others =
+    agreeAt depth p (f .left) line starts q (f .right) others && agreeAt depth p (f .more) line starts q (f .other) others
+agreesBy depth Scalarity f p line starts q others = f .arrows && callsAt depth p (f .left) line starts q (f .right) others
+agreesBy depth Elimination f p line starts q others = true
 
--- What checks 9 and 10 say.
+-- V19, V20: what checks 9 and 10 say.
 unfoldable pub answer : Bool → Bool → Judged
 answer shaped agrees = cond shaped (cond agrees Passed Disagrees) Misshapen
 
-unfoldable pub rowAt : Rule → ℕ → List ℕ → ℕ → List ℕ → List ℕ → List ℕ → ℕ → List ℕ → Judged
-rowAt rule k p i line starts q j others =
+unfoldable pub rowAt : ℕ → Rule → ℕ → List ℕ → ℕ → List ℕ → List ℕ → List ℕ → ℕ → List ℕ → Judged
+rowAt depth rule k p i line starts q j others =
     let f = foundAt rule k p i q j in
-    answer (f .shaped) (agreesBy (f .kind) f p line starts q others)
+    answer (f .shaped) (agreesBy depth (f .kind) f p line starts q others)

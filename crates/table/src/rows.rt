@@ -35,8 +35,8 @@ pub enum Kind {
     Elimination,
 }
 
-// The term of the literal at I that a rewriting rule replaces: occurrence K, the second term of sub or mem, or the object, argument K or the
-// result of a signature.
+// The term of the literal at I that a rewriting rule replaces: occurrence K, the second term of sub or mem, or the object, argument K or
+// the result of a signature.
 pub enum Target {
     Nothing,
     Occurrence,
@@ -290,6 +290,7 @@ fn alone(kind: Kind, shaped: bool, x: usize) -> Found
 // The second column: what the shape names.
 pub fn find(r: Row, k: usize, a: &[u8], x: usize, b: &[u8], y: usize) -> Found
     ensures { λ f. ⌜ f ≡ foundBy (r .kind) r k (now (a .entry)) x (now (b .entry)) y ⌝ }
+    ensures { λ _. ⌜ (now (a .exit) ≡ now (a .entry)) × (now (b .exit) ≡ now (b .entry)) ⌝ }
 {
     let kind = r.kind;
     match kind {
@@ -303,21 +304,35 @@ pub fn find(r: Row, k: usize, a: &[u8], x: usize, b: &[u8], y: usize) -> Found
     }
 }
 
-// The third column: the agreement, filled by the first list of the line and by the second.
-pub fn agrees(f: Found, a: &[u8], first: &[usize], b: &[u8], second: &[usize], line: &[u8]) -> bool
-    ensures { λ r. ⌜ r ≡ agreesBy (f .kind) f (now (a .entry)) (now (line .entry)) (now (first .entry)) (now (b .entry)) (now (second .entry)) ⌝ }
+// The third column: the agreement, filled by the first list of the line and by the second, of terms that nest at most `depth` deep.
+pub fn agrees(
+    depth: u8,
+    f: Found,
+    a: &[u8],
+    first: &[usize],
+    b: &[u8],
+    second: &[usize],
+    line: &[u8],
+) -> bool
+    ensures { λ r.
+        ⌜ r ≡ agreesBy depth (f .kind) f (now (a .entry)) (now (line .entry)) (now (first .entry)) (now (b .entry))
+        (now (second .entry)) ⌝ }
+    ensures { λ _. ⌜ (now (a .exit) ≡ now (a .entry)) × (now (b .exit) ≡ now (b .entry)) × (now (line .exit) ≡ now (line .entry)) ⌝ }
 {
     let kind = f.kind;
     match kind {
         Kind::Reflexivity => true,
-        Kind::Resolution => covers(a, f.left, line, first, b, f.right, second),
-        Kind::Factoring => covers(a, f.left, line, first, b, f.right, second),
-        Kind::Rewriting => agree(a, f.left, line, first, b, f.right, second),
+        Kind::Resolution => covers(depth, a, f.left, line, first, b, f.right, second),
+        Kind::Factoring => covers(depth, a, f.left, line, first, b, f.right, second),
+        Kind::Rewriting => agree(depth, a, f.left, line, first, b, f.right, second),
         Kind::Acyclicity => both(
-            agree(a, f.left, line, first, b, f.right, second),
-            agree(a, f.more, line, first, b, f.other, second),
+            agree(depth, a, f.left, line, first, b, f.right, second),
+            agree(depth, a, f.more, line, first, b, f.other, second),
         ),
-        Kind::Scalarity => calls(f.arrows, a, f.left, line, first, b, f.right, second),
+        Kind::Scalarity => both(
+            f.arrows,
+            calls(depth, a, f.left, line, first, b, f.right, second),
+        ),
         Kind::Elimination => true,
     }
 }

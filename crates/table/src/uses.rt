@@ -3,7 +3,7 @@ use crate::order::row;
 use logic::Rule;
 use parts::shapes::both;
 ghost use mathlib.Core.Path.{_≡_};
-ghost use Rattle.logic.specs.Judge.{below as belowIf, zeroIfUnused};
+ghost use Rattle.logic.specs.StepChecks.{below as belowIf, zeroIfUnused};
 ghost use Rattle.table.specs.Uses.{usesAt, parentNumbers, unusedNumbers};
 
 const USES: [[bool; 5]; 12] = [
@@ -46,14 +46,14 @@ fn zero_if_unused(is_used: bool, n: usize) -> bool
     if is_used { true } else { n == 0 }
 }
 
-// Check 7: "A used parent number isn't below the step's own."
+// Check 7 (V17): "the number of a used parent isn't below the step's own".
 pub fn parents_below(rule: Rule, own: usize, a: usize, b: usize) -> bool
     ensures { λ r. ⌜ r ≡ parentNumbers rule own a b ⌝ }
 {
     both(below(own, used(rule, 0), a), below(own, used(rule, 2), b))
 }
 
-// The first part of check 8: "An unused number isn't 0".
+// The first part of check 8 (V18): "an unused number isn't 0".
 pub fn unused_zero(rule: Rule, a: usize, i: usize, b: usize, j: usize, k: usize) -> bool
     ensures { λ r. ⌜ r ≡ unusedNumbers rule a i b j k ⌝ }
 {

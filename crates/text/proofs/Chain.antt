@@ -8,7 +8,7 @@ use native.Mathlib.Decide.{decLe}
 use lib.ListN.{length, drop, length-drop, length-append}
 use lib.Seq.{drop-at, drop-drop}
 use Rattle.text.specs.Write.{Writer}
-use Rattle.text.specs.Read.{Parsed, bad, got, Reader, after, strip, skip, Branch, _⇒_, orElse, oneOf}
+use Rattle.text.specs.Read.{Parsed, bad, got, Reader, andThen, strip, skip, Branch, _⇒_, orElse, oneOf}
 use Rattle.text.specs.Places.{endOf}
 use Rattle.text.proofs.Gives.{Gives, gives, weaken, Sound, strip-gives}
 use Rattle.text.proofs.Plain.{Plain}
@@ -61,12 +61,12 @@ pub losing : {A : Type 0} {read : Reader A} (s : List ℕ) {at e e' : ℕ} → S
 losing s st h k l = k (lose s st h l)
 
 -- One part and then what follows it.
-pub onward : {A C : Type 0} {read : Reader A} (s : List ℕ) (at : ℕ) {e e' : ℕ} {R : C → Type 0} {p : Parsed C} (f : A → Reader C) → Stops read → e ≡ endOf s (read (drop at s)) → p ≡ after (read (drop at s)) f → (e ≡ length s + 1 → e' ≡ length s + 1) → ((a : A) → read (drop at s) ≡ got a (drop e s) → at ≤ e → e ≤ length s → p ≡ f a (drop e s) → Track s R p e') → Track s R p e'
+pub onward : {A C : Type 0} {read : Reader A} (s : List ℕ) (at : ℕ) {e e' : ℕ} {R : C → Type 0} {p : Parsed C} (f : A → Reader C) → Stops read → e ≡ endOf s (read (drop at s)) → p ≡ andThen (read (drop at s)) f → (e ≡ length s + 1 → e' ≡ length s + 1) → ((a : A) → read (drop at s) ≡ got a (drop e s) → at ≤ e → e ≤ length s → p ≡ f a (drop e s) → Track s R p e') → Track s R p e'
 onward {A} {C} {read} s at {e} {e'} {R} {p} f st h w past-end k = go (look s at st h)
   where
     go : Track s (λ _. at ≤ e) (read (drop at s)) e → Track s R p e'
-    go (lost b l) = lost (w ∙ ap (λ x. after x f) b) (past-end l)
-    go (found a g l m) = k a g m l (w ∙ ap (λ x. after x f) g)
+    go (lost b l) = lost (w ∙ ap (λ x. andThen x f) b) (past-end l)
+    go (found a g l m) = k a g m l (w ∙ ap (λ x. andThen x f) g)
 
 -- A test of the place tells whether something was read.
 pub hit : {A : Type 0} {read : Reader A} (s : List ℕ) (at : ℕ) {e : ℕ} → Stops read → e ≡ endOf s (read (drop at s)) → e ≤ length s → (a : A) × (read (drop at s) ≡ got a (drop e s)) × (at ≤ e)
@@ -96,11 +96,11 @@ pub no-word : {A : Type 0} (r : Reader A) (others : List (Branch A)) (bs : List 
 unfolding oneOf strip
 no-word r others bs = refl
 
-pub last-word : {A : Type 0} (w : String) (r : Reader A) (bs : List ℕ) → oneOf ((w ⇒ r) ∷ []) bs ≡ after (skip w bs) (λ _. r)
+pub last-word : {A : Type 0} (w : String) (r : Reader A) (bs : List ℕ) → oneOf ((w ⇒ r) ∷ []) bs ≡ andThen (skip w bs) (λ _. r)
 unfolding oneOf
 last-word {A} w r bs = go (skip w bs)
   where
-    go : (p : Parsed (Unit {0})) → orElse p r (oneOf []) bs ≡ after p (λ _. r)
+    go : (p : Parsed (Unit {0})) → orElse p r (oneOf []) bs ≡ andThen p (λ _. r)
     go bad = refl
     go (got u rest) = refl
 
@@ -121,9 +121,9 @@ at-most {A} s {e} p h = rw h (go p)
     go (got a rest) = omega arith
 
 -- What is read at the end of a part is what follows it.
-pub handed : {A B : Type 0} {read : Reader A} (s : List ℕ) (at : ℕ) {e : ℕ} (next : Reader B) → Stops read → e ≡ endOf s (read (drop at s)) → next [] ≡ bad → next (drop e s) ≡ after (read (drop at s)) (λ _. next)
+pub handed : {A B : Type 0} {read : Reader A} (s : List ℕ) (at : ℕ) {e : ℕ} (next : Reader B) → Stops read → e ≡ endOf s (read (drop at s)) → next [] ≡ bad → next (drop e s) ≡ andThen (read (drop at s)) (λ _. next)
 handed {A} {B} {read} s at {e} next st h n = go (look s at st h)
   where
-    go : Track s (λ _. at ≤ e) (read (drop at s)) e → next (drop e s) ≡ after (read (drop at s)) (λ _. next)
+    go : Track s (λ _. at ≤ e) (read (drop at s)) e → next (drop e s) ≡ andThen (read (drop at s)) (λ _. next)
     go (lost b l) = ap next (past s e (omega arith)) ∙ n ∙ rw b
     go (found a g l m) = rw g

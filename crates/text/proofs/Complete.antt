@@ -13,8 +13,8 @@ use Rattle.logic.specs.declared.Rule.the-variants.{Refl, Res, Fac, Par, Acy, Tr
 use Rattle.logic.specs.Syntax.{Term, var, app, Terms, nil, cons, Result, value, none, mayBeNone, link, obj, method, lit, Line, sym, input, by}
 use Rattle.text.specs.Words.{bytes, signWord, linkWord, arrowWord, ruleWord}
 use Rattle.text.specs.Write.{_∘_, word, putTerm, putTerms, putArguments, putResult, putAtom, putLiteral, putClause, putLet, putStep, putLine, writeLine}
-use Rattle.text.specs.Form.{formedTerm, formedTerms, formedResult, formedAtom, formedLiteral, formedClause, formedStep, formedLine}
-use Rattle.text.specs.Read.{bad, got, Reader, strip, oneOf, digit, form, readTerms, readVariable, readApplied, readTerm, readArguments, readResult, readLink, readObject, readMethod, readKind, readAtom, readSign, readLiteral, readClause, readLet, readRule, readSym, readInput, readStep, readForm, whole, readLine}
+use Rattle.text.specs.Form.{formedTerm, formedTerms, formedResult, formedAtom, formedLiteral, formedClause, formedStep, formedLine, form}
+use Rattle.text.specs.Read.{bad, got, Reader, strip, oneOf, digit, readTerms, readVariable, readApplied, readTerm, readArguments, readResult, readLink, readObject, readMethod, readKind, readAtom, readSign, readLiteral, readClause, readLet, readRule, readSym, readInput, readStep, readForm, whole, readLine}
 use Rattle.text.proofs.Tests.{T-and, onTest}
 use Rattle.text.proofs.Gives.{Complete}
 use Rattle.text.proofs.Formed.{var-formed, app-formed, no-depth}

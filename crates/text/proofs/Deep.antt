@@ -1,15 +1,14 @@
 -- Clauses whose numbers are numbers N, of any depth: each is formed at some depth, so its bytes determine it.
-use Prim.Native.Nat.{ℕ, zero, suc, max, _≤_}
-use mathlib.Core.Bool.{Bool, true, false, _&&_}
+use Prim.Native.Nat.{ℕ, max, _≤_}
+use mathlib.Core.Bool.{Bool, true, _&&_}
 use mathlib.Core.List.{List, [], _∷_}
-use mathlib.Core.Logic.{_↔_}
 use mathlib.Core.Path.{_≡_}
 use native.Mathlib.Omega.{arith}
-use lib.Dec.{T, leb, leb→le, le→leb}
+use lib.Dec.{T, leb, le→leb}
 use Rattle.logic.specs.declared.Arrow.{Arrow}
-use Rattle.logic.specs.Syntax.{Term, var, app, Terms, nil, cons, Result, value, none, Atom, link, obj, method, Literal, lit, Clause, mayBeNone}
-use Rattle.logic.specs.Terms.{count, termsOf, join, resultTerms}
-use Rattle.logic.specs.Each.{eachTerm, eachTerms, eachAtom, atomOver, allowed, allowedResult}
+use Rattle.logic.specs.Syntax.{Term, var, app, Terms, nil, cons, Result, value, none, Atom, link, obj, method, lit, Clause, mayBeNone}
+use Rattle.logic.specs.Terms.{termsOf, join, resultTerms}
+use Rattle.logic.specs.Each.{eachTerm, eachTerms, atomOver, allowed, allowedResult}
 use Rattle.logic.proofs.Both.{left, right, both}
 use Rattle.logic.proofs.Parts.{link-parts, link-over, obj-part, obj-over, arrow-parts, arrow-over, arrow-allowed}
 use Rattle.logic.specs.Fill.{entries}

@@ -1,4 +1,4 @@
--- The form on texts: example C1 of document 01, and the edges of numbers and of depth.
+-- The form on texts: example C1 of TEXT-FORM, and the edges of numbers and of depth.
 use Prim.Native.Nat.{ℕ, zero, suc}
 use Prim.Native.String.{String}
 use mathlib.Core.Path.{_≡_, refl}
@@ -11,8 +11,9 @@ use Rattle.logic.specs.declared.Rule.the-variants.{Inc, Res}
 use Rattle.logic.specs.Syntax.{Term, var, app, nil, cons, link, lit, Line, sym, input, by, mayBeNone}
 use Rattle.text.specs.Words.{bytes}
 use Rattle.text.specs.Write.{putDigits, putNumber, putTerm, putAtom, putLiteral, putLiterals, putClause, putLet, putStep, putLine, writeLines}
-use Rattle.text.specs.Read.{bad, got, Reading, form, noForm, strip, oneOf, digit, goesOn, readDigits, readNumber, readNext, readItems, readMany, readVariable, readApplied, readTerm, readArguments, readResult, readLink, readObject, readMethod, readKind, readAtom, readSign, readLiteral, readClause, readLet, readRule, readSym, readInput, readStep, readForm, whole, readLine}
-use Rattle.text.specs.Split.{ended, unended, push, split, readRaw}
+use Rattle.text.specs.Form.{Reading, form, noForm}
+use Rattle.text.specs.Read.{bad, got, strip, oneOf, digit, goesOn, readDigits, readNumber, readNext, readItems, readMany, readVariable, readApplied, readTerm, readArguments, readResult, readLink, readObject, readMethod, readKind, readAtom, readSign, readLiteral, readClause, readLet, readRule, readSym, readInput, readStep, readForm, whole, readLine, readRaw}
+use Rattle.text.specs.Split.{ended, unended, push, split}
 
 abbrev text : List ℕ
 text = bytes "(sym 0)\n(sym 0)\n(sym 0)\n(in (or (+ (mem (f 0) (f 1)))))\n(in (or (+ (sub (f 1) (f 2)))))\n(in (or (- (mem (v 0) (f 2)))))\n(by inc 0 0 1 0 0 (let) (let) (or (+ (mem (f 0) (f 2)))))\n(by res 2 0 3 0 0 (let (f 0)) (let) (or))\n"

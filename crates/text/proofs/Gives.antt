@@ -6,7 +6,7 @@ use mathlib.Core.List.{List, [], _∷_, _++_}
 use lib.Dec.{eqb, eqb→eq}
 use Rattle.text.specs.Words.{bytes}
 use Rattle.text.specs.Write.{Writer, word}
-use Rattle.text.specs.Read.{Parsed, bad, got, Reader, after, _>>=_, _>>_, return, strip, skip, Branch, _⇒_, orElse, oneOf, each}
+use Rattle.text.specs.Read.{Parsed, bad, got, Reader, andThen, _>>=_, _>>_, return, strip, skip, Branch, _⇒_, orElse, oneOf, each}
 use Rattle.text.proofs.Tests.{onTest}
 
 -- If the answer is a value, then Q of it and the bytes after it.
@@ -20,7 +20,7 @@ given′ (gives q) = q
 pub given : {A : Type 0} {Q : A → List ℕ → Type 0} {p : Parsed A} {a : A} {rest : List ℕ} → Gives Q p → p ≡ got a rest → Q a rest
 given {Q} g e = given′ (subst (Gives Q) e g)
 
-pub bind : {A B : Type 0} {Q : A → List ℕ → Type 0} {R : B → List ℕ → Type 0} {p : Parsed A} {f : A → Reader B} → Gives Q p → ((a : A) (rest : List ℕ) → Q a rest → Gives R (f a rest)) → Gives R (after p f)
+pub bind : {A B : Type 0} {Q : A → List ℕ → Type 0} {R : B → List ℕ → Type 0} {p : Parsed A} {f : A → Reader B} → Gives Q p → ((a : A) (rest : List ℕ) → Q a rest → Gives R (f a rest)) → Gives R (andThen p f)
 bind nothing k = nothing
 bind (gives {a} {rest} q) k = k a rest q
 
@@ -91,6 +91,6 @@ oneOf-cong {bs} (Agree.branch {w} {r} {q} {table} {also} h a) = go (strip-gives 
     go nothing e = e
     go (gives {rest} e) _ = h rest e
 
-pub after-cong : {A B : Type 0} {Q : A → List ℕ → Type 0} {p : Parsed A} {f g : A → Reader B} → Gives Q p → ((a : A) (rest : List ℕ) → Q a rest → f a rest ≡ g a rest) → after p f ≡ after p g
+pub after-cong : {A B : Type 0} {Q : A → List ℕ → Type 0} {p : Parsed A} {f g : A → Reader B} → Gives Q p → ((a : A) (rest : List ℕ) → Q a rest → f a rest ≡ g a rest) → andThen p f ≡ andThen p g
 after-cong nothing h = refl
 after-cong (gives {a} {rest} q) h = h a rest q

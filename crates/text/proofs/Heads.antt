@@ -1,22 +1,18 @@
 -- An atom begins with the head of its kind and with no other.
-use Prim.Native.Nat.{ℕ, zero, suc, _<_}
-use mathlib.Core.Bool.{Bool, true, false, not, cond, _||_, _&&_}
-use mathlib.Core.List.{List, [], _∷_, _++_, append-assoc}
-use mathlib.Core.Path.{_≡_, refl, sym, ap, subst, _∙_}
+use Prim.Native.Nat.{ℕ, _<_}
+use mathlib.Core.Bool.{Bool, true, false, not, cond, _||_}
+use mathlib.Core.List.{List, [], _∷_, _++_}
+use mathlib.Core.Path.{_≡_, refl}
 use native.Mathlib.Omega.{arith}
 use lib.Dec.{T, eqb, eqb→eq, eqb-refl}
-use lib.ListN.{length, getD}
-use Rattle.logic.specs.declared.Sign.{Sign}
 use Rattle.logic.specs.declared.Sign.the-variants.{Positive, Negative}
-use Rattle.logic.specs.declared.Link.{Link}
 use Rattle.logic.specs.declared.Link.the-variants.{Eq, Mem, Sub}
-use Rattle.logic.specs.declared.Arrow.{Arrow}
 use Rattle.logic.specs.declared.Arrow.the-variants.{Sv, Si, Mv, Mi, St, Mt}
-use Rattle.logic.specs.Syntax.{Term, Terms, Result, Atom, link, obj, method, Literal, lit}
+use Rattle.logic.specs.Syntax.{Atom, link, obj, method, lit}
 use Rattle.text.specs.Words.{bytes}
 use Rattle.text.specs.Write.{Writer, _∘_, word, putTerm, putArguments, putResult, putAtom, putLiteral}
-use Rattle.text.specs.Read.{Parsed, bad, got, strip}
-use Rattle.text.specs.Heads.{heads, linkKind, arrowKind, kindNumber, head}
+use Rattle.text.specs.Read.{bad, got, strip}
+use Rattle.text.specs.Heads.{linkKind, arrowKind, kindNumber, head}
 use Rattle.text.proofs.Tests.{holds}
 use Rattle.text.proofs.Table.{at, every}
 

@@ -1,5 +1,6 @@
 -- A text and its lines.
 use Prim.Native.Nat.{ℕ}
+use mathlib.Core.Logic.{_↔_}
 use mathlib.Core.Path.{_≡_, refl, sym, _∙_, ap}
 use mathlib.Core.Bool.{not}
 use mathlib.Core.List.{List, [], _∷_, _++_, map}
@@ -8,9 +9,9 @@ use lib.Dec.{T, eqb, eqb→eq, T-not}
 use Rattle.logic.specs.Syntax.{Line}
 use Rattle.text.specs.Words.{lineEnd}
 use Rattle.text.specs.Write.{writeLine, writeLines}
-use Rattle.text.specs.Form.{formedLines}
-use Rattle.text.specs.Read.{form}
-use Rattle.text.specs.Split.{Raw, ended, unended, push, split, readRaw, join}
+use Rattle.text.specs.Form.{formedLine, formedLines, form}
+use Rattle.text.specs.Read.{readLine, readRaw}
+use Rattle.text.specs.Split.{Raw, ended, unended, push, split}
 use Rattle.text.proofs.Tests.{T-and, onTest}
 use Rattle.text.proofs.Plain.{unbroken, line-plain, in-front, unbroken-put}
 use Rattle.text.proofs.Sound.{line-sound}
@@ -40,19 +41,25 @@ unfolding writeLines writeLine split
 split-written [] = refl
 split-written (l ∷ ls) = rw (in-front (line-plain l)) (split-line (writeLine l) (writeLines ls) (line-unbroken l) ∙ ap (λ x. ended (writeLine l) ∷ x) (split-written ls))
 
-join-push : (b : ℕ) (lines : List Raw) → join (push b lines) ≡ b ∷ join lines
-unfolding join push
-join-push b [] = refl
-join-push b (ended l ∷ lines) = refl
-join-push b (unended l ∷ lines) = refl
+-- The lines' bytes, one after the other.
+unfoldable pub linesBytes : List Raw → List ℕ
+linesBytes [] = []
+linesBytes (ended bs ∷ lines) = bs ++ (lineEnd ∷ linesBytes lines)
+linesBytes (unended bs ∷ lines) = bs ++ linesBytes lines
 
-pub join-split : (bs : List ℕ) → join (split bs) ≡ bs
-unfolding join split
-join-split [] = refl
-join-split (b ∷ bs) = onTest (λ x. join x ≡ b ∷ bs) (eqb b lineEnd) (λ t. rw (join-split bs, eqb→eq b lineEnd t)) (λ _. rw (join-push b (split bs), join-split bs))
+bytes-push : (b : ℕ) (lines : List Raw) → linesBytes (push b lines) ≡ b ∷ linesBytes lines
+unfolding linesBytes push
+bytes-push b [] = refl
+bytes-push b (ended l ∷ lines) = refl
+bytes-push b (unended l ∷ lines) = refl
+
+pub bytes-split : (bs : List ℕ) → linesBytes (split bs) ≡ bs
+unfolding linesBytes split
+bytes-split [] = refl
+bytes-split (b ∷ bs) = onTest (λ x. linesBytes x ≡ b ∷ bs) (eqb b lineEnd) (λ t. rw (bytes-split bs, eqb→eq b lineEnd t)) (λ _. rw (bytes-push b (split bs), bytes-split bs))
 
 pub split-unique : {bs cs : List ℕ} → split bs ≡ split cs → bs ≡ cs
-split-unique {bs} {cs} e = sym (join-split bs) ∙ ap join e ∙ join-split cs
+split-unique {bs} {cs} e = sym (bytes-split bs) ∙ ap linesBytes e ∙ bytes-split cs
 
 pub lines-complete : (d : ℕ) (ls : List Line) → T (formedLines d ls) → map (readRaw d) (split (writeLines ls)) ≡ map form ls
 unfolding formedLines readRaw writeLines split
@@ -61,16 +68,31 @@ lines-complete d (l ∷ ls) f =
     let (g, h) = simp T-and at f in
     ap (map (readRaw d)) (split-written (l ∷ ls)) ∙ rw (line-complete d l g, sym (ap (map (readRaw d)) (split-written ls)) ∙ lines-complete d ls h)
 
-lines-joined : (d : ℕ) (lines : List Raw) (ls : List Line) → map (readRaw d) lines ≡ map form ls → (join lines ≡ writeLines ls) × T (formedLines d ls)
-unfolding join writeLines writeLine formedLines readRaw
-lines-joined d [] [] e = (refl, tt)
-lines-joined d [] (l ∷ ls) e = let z : _≡_ {A = ℕ} 0 1 = cc in absurd (omega arith)
-lines-joined d (r ∷ lines) [] e = let z : _≡_ {A = ℕ} 0 1 = cc in absurd (omega arith)
-lines-joined d (ended w ∷ lines) (l ∷ ls) e =
+lines-read : (d : ℕ) (lines : List Raw) (ls : List Line) → map (readRaw d) lines ≡ map form ls → (linesBytes lines ≡ writeLines ls) × T (formedLines d ls)
+unfolding linesBytes writeLines writeLine formedLines readRaw
+lines-read d [] [] e = (refl, tt)
+lines-read d [] (l ∷ ls) e = let z : _≡_ {A = ℕ} 0 1 = cc in absurd (omega arith)
+lines-read d (r ∷ lines) [] e = let z : _≡_ {A = ℕ} 0 1 = cc in absurd (omega arith)
+lines-read d (ended w ∷ lines) (l ∷ ls) e =
     let (p, f) = line-sound d w l (cc) in
-    let (q, g) = lines-joined d lines ls (cc) in
+    let (q, g) = lines-read d lines ls (cc) in
     (rw (p, q) (sym (in-front (line-plain l) (lineEnd ∷ writeLines ls))), simp T-and (f, g))
-lines-joined d (unended w ∷ lines) (l ∷ ls) e = let z : _≡_ {A = ℕ} 0 1 = cc in absurd (omega arith)
+lines-read d (unended w ∷ lines) (l ∷ ls) e = let z : _≡_ {A = ℕ} 0 1 = cc in absurd (omega arith)
 
 pub lines-sound : (d : ℕ) (bs : List ℕ) (ls : List Line) → map (readRaw d) (split bs) ≡ map form ls → (bs ≡ writeLines ls) × T (formedLines d ls)
-lines-sound d bs ls e = let (j, f) = lines-joined d (split bs) ls e in (sym (join-split bs) ∙ j, f)
+lines-sound d bs ls e = let (j, f) = lines-read d (split bs) ls e in (sym (bytes-split bs) ∙ j, f)
+
+-- A line is read as a form exactly if it is written so, and a text's lines exactly if the text is written so.
+pub line-exactly : (d : ℕ) (bs : List ℕ) (l : Line) → (readLine d bs ≡ form l) ↔ ((bs ≡ writeLine l) × T (formedLine d l))
+line-exactly d bs l = (line-sound d bs l, λ w. ap (readLine d) (w .0) ∙ line-complete d l (w .1))
+
+pub raw-exactly : (d : ℕ) (r : Raw) (l : Line) → (readRaw d r ≡ form l) ↔ ((r ≡ ended (writeLine l)) × T (formedLine d l))
+unfolding readRaw
+raw-exactly d (ended bs) l = (
+  λ e. let (p, f) = line-sound d bs l e in (ap ended p, f),
+  λ w. let e = w .0 in line-exactly d bs l .1 (cc, w .1),
+)
+raw-exactly d (unended bs) l = (λ e. let z : _≡_ {A = ℕ} 0 1 = cc in absurd (omega arith), λ w. let e = w .0 in let z : _≡_ {A = ℕ} 0 1 = cc in absurd (omega arith))
+
+pub lines-exactly : (d : ℕ) (bs : List ℕ) (ls : List Line) → (map (readRaw d) (split bs) ≡ map form ls) ↔ ((bs ≡ writeLines ls) × T (formedLines d ls))
+lines-exactly d bs ls = (lines-sound d bs ls, λ w. ap (λ b. map (readRaw d) (split b)) (w .0) ∙ lines-complete d ls (w .1))

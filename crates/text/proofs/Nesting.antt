@@ -1,22 +1,21 @@
 -- What the walks over bytes of specs/Access.antt give on written forms.
 use Prim.Native.Nat.{ℕ, zero, suc, _+_, _-_, _≤_, _<_}
 use mathlib.Core.Path.{_≡_, refl, sym, _∙_, ap}
-use mathlib.Core.Bool.{Bool, true, false, not, cond}
+use mathlib.Core.Bool.{Bool, true, false, not}
 use mathlib.Core.List.{List, [], _∷_, _++_}
 use native.Mathlib.Omega.{arith}
-use lib.Dec.{T, eqb, not-T, eqb→eq, T-not}
+use lib.Dec.{T, eqb}
 use lib.ListN.{length, take, drop, getD, length-append, length-drop}
 use lib.Seq.{drop-drop, take-at}
 use native.Mathlib.Numerals.{add-one}
 use borrow.Author.Tests.{ne-eqb, lt-ltb, le-leb}
 use Rattle.logic.specs.Syntax.{Term, var as variable, app, Terms, nil, cons, Atom, Literal, Clause}
 use Rattle.logic.specs.Terms.{count, entryOr}
-use Rattle.text.specs.Write.{Writer, word, putNumber, putTerm, putTerms, putArguments, putAtom, putLiteral, putLiterals, putClause, putLet}
-use Rattle.text.specs.Read.{Parsed, bad, got, Reader, strip}
+use Rattle.text.specs.Write.{Writer, word, putTerm, putTerms, putArguments, putAtom, putLiteral, putLiterals, putClause, putLet}
+use Rattle.text.specs.Read.{Parsed, bad, got, strip}
 use Rattle.text.specs.Places.{endOf}
 use Rattle.text.specs.Access.{closing, skipItem, passItem, toItem, opening, toArgument, places, entryOf}
 use Rattle.text.proofs.Tests.{T-and}
-use Rattle.text.proofs.Gives.{Gives, nothing, gives, given, strip-gives}
 use Rattle.text.proofs.Positions.{pass-tail, landed}
 use Rattle.text.proofs.Plain.{Plain, number-plain, term-plain, in-front}
 use Rattle.text.proofs.Trees.{Tree, var, node, Trees, end, byte, part, putTree, putInside, inner, Inner, Clean, CleanIn, numberBytes, number-inner, put-term, put-arguments, put-atom, put-literal, put-clause, put-let, clean-term, clean-arguments, clean-atom, clean-literal, clean-clause, clean-let}

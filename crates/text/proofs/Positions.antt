@@ -6,9 +6,9 @@ use native.Mathlib.Omega.{arith}
 use lib.ListN.{length, take, drop, getD, set, replicate, length-drop, length-append, drop-of-length-le, List·getD-eq-default}
 use lib.Seq.{drop-drop, drop-at, drop-length, take-suc-set, append-snoc}
 use native.Mathlib.Decide.{decLe}
-use borrow.Author.Tests.{eq-eqb, ne-eqb, lt-ltb, le-ltb, le-leb, lt-leb}
+use borrow.Author.Tests.{ne-eqb, lt-ltb, le-ltb, le-leb, lt-leb}
 use lib.Dec.{eqb}
-use Rattle.text.specs.Read.{Parsed, bad, got, Reader, after, _>>_, strip}
+use Rattle.text.specs.Read.{Parsed, bad, got, Reader, andThen, _>>_, strip}
 use Rattle.text.specs.Places.{endOf}
 use Rattle.text.specs.Access.{closing, skipItem, passItem, toItem, opening, toArgument, places, entryOf}
 use Rattle.text.proofs.Places.{at-byte}
@@ -94,11 +94,11 @@ end-drop s at rest p =
     go l (yes h) = let e : at + (length (drop at s) - length rest) ≡ length s - length rest = omega arith in rw (← e, ← drop-drop, p .dropped)
     go l (no h) = let z : length rest ≡ 0 = omega arith in let n : length s - length rest ≡ length s = omega arith in rw (n, drop-length) (sym (empty rest z))
 
-pub then-end : {A B : Type 0} (s : List ℕ) (at : ℕ) {read : Reader A} → Tail read → (next : Reader B) → next [] ≡ bad → endOf s (after (read (drop at s)) (λ _. next)) ≡ endOf s (next (drop (endOf s (read (drop at s))) s))
+pub then-end : {A B : Type 0} (s : List ℕ) (at : ℕ) {read : Reader A} → Tail read → (next : Reader B) → next [] ≡ bad → endOf s (andThen (read (drop at s)) (λ _. next)) ≡ endOf s (next (drop (endOf s (read (drop at s))) s))
 unfolding endOf
 then-end {A} s at {read} t next none = go (t .tail (drop at s))
   where
-    go : {p : Parsed A} → Gives (λ _ rest. End (drop at s) rest) p → endOf s (after p (λ _. next)) ≡ endOf s (next (drop (endOf s p) s))
+    go : {p : Parsed A} → Gives (λ _ rest. End (drop at s) rest) p → endOf s (andThen p (λ _. next)) ≡ endOf s (next (drop (endOf s p) s))
     go nothing = rw (drop-of-length-le s {i = length s + 1} (omega arith), none)
     go (gives {rest} e) = rw (end-drop s at rest e)
 

@@ -6,10 +6,10 @@ use mathlib.Core.List.{List, [], _∷_, _++_}
 use lib.Dec.{T}
 use Rattle.logic.specs.declared.Arrow.{Arrow}
 use Rattle.logic.specs.Syntax.{mayBeNone, link, method, Line}
-use Rattle.text.specs.Words.{signWord, signs, linkWord, links, arrowWord, arrows, ruleWord, rules}
+use Rattle.text.specs.Read.{signs, links, arrows, rules, Parsed, bad, got, return, oneOf, each, readVariable, readApplied, readTerm, readArguments, readResult, readLink, readObject, readMethod, readKind, readAtom, readSign, readLiteral, readClause, readLet, readRule, readSym, readInput, readStep, readForm, whole, readLine}
+use Rattle.text.specs.Words.{signWord, linkWord, arrowWord, ruleWord}
 use Rattle.text.specs.Write.{word, putTerm, putArguments, putResult, putAtom, putLiteral, putClause, putLet, putStep, putLine, writeLine}
-use Rattle.text.specs.Form.{formedTerm, formedTerms, formedResult, formedAtom, formedLiteral, formedClause, formedStep, formedLine}
-use Rattle.text.specs.Read.{Parsed, bad, got, return, oneOf, each, form, readVariable, readApplied, readTerm, readArguments, readResult, readLink, readObject, readMethod, readKind, readAtom, readSign, readLiteral, readClause, readLet, readRule, readSym, readInput, readStep, readForm, whole, readLine}
+use Rattle.text.specs.Form.{formedTerm, formedTerms, formedResult, formedAtom, formedLiteral, formedClause, formedStep, formedLine, form}
 use Rattle.text.proofs.Tests.{T-and, onTest}
 use Rattle.text.proofs.Gives.{nothing, given, Meets, Sound, seq, finally, skipped, returned, none as noBranch, branch, branches, oneOf-meets}
 use Rattle.text.proofs.Formed.{var-formed, app-formed}

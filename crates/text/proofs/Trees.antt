@@ -1,11 +1,10 @@
 -- Written forms as trees of brackets. What walks over the bytes of a form is judged once, on trees.
 use Prim.Native.Nat.{ℕ, zero, suc, _+_, _/_, _%_, _≤_, _<_, max}
-use Prim.Native.String.{String}
-use mathlib.Core.Path.{_≡_, refl, sym, _∙_, ap}
+use mathlib.Core.Path.{_≡_, refl}
 use mathlib.Core.Bool.{Bool, true, false, not, _&&_, cond}
 use mathlib.Core.List.{List, [], _∷_, _++_}
 use native.Mathlib.Omega.{arith}
-use lib.Dec.{T, eqb, ltb, not-T, eqb→eq, leb→le}
+use lib.Dec.{T, eqb, ltb, not-T, eqb→eq}
 use Rattle.logic.specs.declared.Sign.{Sign}
 use Rattle.logic.specs.declared.Sign.the-variants.{Positive, Negative}
 use Rattle.logic.specs.declared.Link.{Link}
@@ -15,10 +14,9 @@ use Rattle.logic.specs.declared.Arrow.the-variants.{Sv, Si, Mv, Mi, St, Mt}
 use Rattle.logic.specs.Syntax.{Term, var as variable, app, Terms, nil, cons, Result, value, none, Atom, link, obj, method, Literal, lit, Clause}
 use Rattle.logic.specs.Terms.{join, termsOf, resultTerms}
 use Rattle.logic.specs.Each.{termWidth, termsWidth}
-use Rattle.logic.specs.Fill.{Substitution, fill, fills, fillResult, fillAtom, fillLiteral}
 use Rattle.text.specs.Words.{bytes, signWord, linkWord, arrowWord}
 use Rattle.text.specs.Write.{Writer, word, digitByte, putDigits, putNumber, putTerm, putTerms, putArguments, putResult, putAtom, putLiteral, putLiterals, putClause, putLet}
-use Rattle.text.specs.Form.{formedNumber, depthOf, depthOfs, numbered, numbereds, formedTerm, formedTerms, formedResult, formedAtom, formedLiteral}
+use Rattle.text.specs.Form.{formedNumber, formedTerm, formedTerms, formedResult, formedAtom}
 use Rattle.text.proofs.Tests.{T-and}
 use Rattle.text.proofs.Formed.{var-formed, app-formed, no-depth, terms-formed}
 use Rattle.text.proofs.Plain.{number-plain, in-front}

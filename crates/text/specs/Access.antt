@@ -1,4 +1,5 @@
--- Finding the parts of a clause in its bytes: what stands in brackets, one item after another.
+-- Nothing in this file has to be believed: the parts of a clause in its bytes, what stands in brackets, one item after another.
+-- `clause-item`, `argument-item` and `let-entry` (proofs/Nesting) say what is found in what the writer puts.
 use Prim.Native.Nat.{ℕ, zero, suc, _+_, _-_}
 use mathlib.Core.Bool.{Bool, true, false, cond, _&&_, _||_}
 use mathlib.Core.List.{List, [], _∷_}
@@ -16,11 +17,11 @@ closing n (b ∷ bs) =
     let on = closing n bs in
     cond (eqb b 40) deeper (cond (eqb b 41) (cond (eqb n 0) (got tt bs) out) on)
 
--- "nested brackets": an item is what stands in brackets, with them.
+-- T1, "nested brackets": an item is what stands in brackets, with them.
 unfoldable pub skipItem : Reader (Unit {0})
 skipItem = skip "(" >> closing 0
 
--- "One space between items": a space and the item after it.
+-- T3, "One space stands between two items": a space and the item after it.
 unfoldable pub passItem : Reader (Unit {0})
 passItem = skip " " >> skipItem
 
@@ -29,7 +30,7 @@ unfoldable pub toItem : ℕ → Reader (Unit {0})
 toItem zero = skip " "
 toItem (suc n) = passItem >> toItem n
 
--- Argument n, "(T ...)", "arguments from 0": the first has no space in front of it.
+-- T13, T17: argument n of "(T ...)", numbered from 0: the first has no space in front of it.
 unfoldable pub opening : Reader (Unit {0})
 opening [] = bad
 opening (b ∷ bs) = cond (eqb b 40) (got tt (b ∷ bs)) bad
@@ -43,7 +44,7 @@ unfoldable pub places : List ℕ → ℕ → ℕ → List ℕ
 places s zero at = []
 places s (suc n) at = at ∷ places s n (endOf s (passItem (drop at s)))
 
--- "variable N of A becomes term N of the first list": the bytes of entry n, between the places of two neighbours.
+-- R2, "variable N of A becomes term N of the first list": the bytes of entry n, between the places of two neighbours.
 unfoldable pub entryOf : List ℕ → List ℕ → ℕ → List ℕ
 entryOf s starts n =
     let from = getD starts n 0 in
@@ -54,11 +55,11 @@ unfoldable pub stood : Parsed (Unit {0}) → Bool
 stood bad = false
 stood (got u rest) = true
 
--- A term begins with "(v " or "(f ".
+-- T11: a term begins with "(v " or "(f ".
 unfoldable pub beginsTerm : List ℕ → Bool
 beginsTerm bs = stood (skip "(v " bs) || stood (skip "(f " bs)
 
--- "Occurrences are counted from 0 .., left to right, a term before its parts, variables included":
+-- R20, "Occurrences are counted from 0 .., from left to right, a term before its parts, variables included":
 -- from inside an item, with n brackets open in it, to the term that k terms come before.
 unfoldable pub seek : ℕ → ℕ → Reader (Unit {0})
 seek k n [] = bad

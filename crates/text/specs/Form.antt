@@ -1,19 +1,21 @@
--- The bounds that belong to the form itself (document 01, "The text"). The other limits are check 5 and not here.
+-- The bounds that belong to the form itself (T4, T12, T15). The other limits (T18) are checks 1 and 5 and not here.
 use Prim.Native.Nat.{ℕ, suc, max}
 use mathlib.Core.Bool.{Bool, true, _&&_}
 use mathlib.Core.List.{List, [], _∷_}
 use lib.Dec.{leb}
 use Rattle.logic.specs.declared.Arrow.{Arrow}
-use Rattle.logic.specs.Syntax.{Term, var, app, Terms, nil, cons, Result, value, none, mayBeNone, Atom, link, obj, method, Literal, lit, Clause, Step, Line, sym, input, by}
+use Rattle.logic.specs.Syntax.{Term, var, app, Terms, nil, cons, Result, value, none, mayBeNone}
+use Rattle.logic.specs.Syntax.{Atom, link, obj, method, Literal, lit, Clause}
+use Rattle.logic.specs.Syntax.{Step, Line, sym, input, by}
 
--- "A number N is decimal, 0 to 65,535"
+-- T4: "A number N is decimal, 0 to 65,535".
 abbrev pub maxNumber : ℕ
 maxNumber = 65_535
 
 abbrev pub formedNumber : ℕ → Bool
 formedNumber n = leb n maxNumber
 
--- "Terms nest .. deep, the outermost counting as 1"
+-- T12: "Terms nest .. deep, the outermost counting as 1."
 unfoldable mutual
   pub depthOf : Term → ℕ
   depthOf (var n) = 1
@@ -23,7 +25,7 @@ unfoldable mutual
   depthOfs nil = 0
   depthOfs (cons t ts) = max (depthOf t) (depthOfs ts)
 
--- Every number of a term is a number N.
+-- T4, T11: every number of a term is a number N.
 unfoldable mutual
   pub numbered : Term → Bool
   numbered (var n) = formedNumber n
@@ -33,19 +35,19 @@ unfoldable mutual
   numbereds nil = true
   numbereds (cons t ts) = numbered t && numbereds ts
 
--- "Terms nest at most 16 terms deep ..; a deeper one isn't a form." The depth is a figure of its own.
+-- T12: "Terms nest at most 16 terms deep .. A line with a deeper term isn't a form." The depth is a figure of its own.
 unfoldable pub formedTerm : ℕ → Term → Bool
 formedTerm depth t = leb (depthOf t) depth && numbered t
 
 unfoldable pub formedTerms : ℕ → Terms → Bool
 formedTerms depth ts = leb (depthOfs ts) depth && numbereds ts
 
--- "R is a term; for mv, mi, st, mt it may be the word `none`"
+-- T15: "The result R is a term. With mv, mi, st and mt it may be the word `none` instead".
 unfoldable pub formedResult : ℕ → Arrow → Result → Bool
 formedResult depth a (value t) = formedTerm depth t
 formedResult depth a none = mayBeNone a
 
--- Every term of an atom, a literal, a clause is formed.
+-- T13, T16: every term of an atom, a literal, a clause is formed.
 unfoldable pub formedAtom : ℕ → Atom → Bool
 formedAtom depth (link l t u) = formedTerm depth t && formedTerm depth u
 formedAtom depth (obj t) = formedTerm depth t
@@ -58,13 +60,13 @@ unfoldable pub formedClause : ℕ → Clause → Bool
 formedClause depth [] = true
 formedClause depth (l ∷ ls) = formedLiteral depth l && formedClause depth ls
 
--- "A I B J K are numbers N."
+-- T6: A, I, B, J, K are numbers N. T9: the two lists and the claim.
 unfoldable pub formedStep : ℕ → Step → Bool
 formedStep depth s =
     formedNumber (s .a) && formedNumber (s .i) && formedNumber (s .b) && formedNumber (s .j) && formedNumber (s .k)
     && formedTerms depth (s .first) && formedTerms depth (s .second) && formedClause depth (s .claim)
 
--- A line is a form exactly if it is written so and is formed.
+-- T1, T7 to T9: a line is a form exactly if it is written so and is formed.
 unfoldable pub formedLine : ℕ → Line → Bool
 formedLine depth (sym k) = formedNumber k
 formedLine depth (input c) = formedClause depth c
@@ -73,3 +75,8 @@ formedLine depth (by s) = formedStep depth s
 unfoldable pub formedLines : ℕ → List Line → Bool
 formedLines depth [] = true
 formedLines depth (l ∷ ls) = formedLine depth l && formedLines depth ls
+
+-- V12: what a line of a text is: a form or not (`raw-exactly`: it is the form l exactly if it is ended, l is written so, and l is formed).
+pub data Reading : Type 0 where
+  form : Line → Reading
+  noForm : Reading

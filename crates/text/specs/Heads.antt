@@ -1,6 +1,6 @@
--- How an atom begins: the bracket, its word and a space. Kinds of atoms are numbered.
-use Prim.Native.Nat.{ℕ, zero, suc}
-use Prim.Native.String.{String}
+-- Nothing in this file has to be believed: how an atom begins in bytes, the bracket, its word and a space, the kinds of atoms numbered.
+-- `head-of` and `head-other` (proofs/Heads) say that the head tells the kind.
+use Prim.Native.Nat.{ℕ}
 use mathlib.Core.List.{List, [], _∷_}
 use lib.ListN.{getD}
 use Rattle.logic.specs.declared.Link.{Link}

@@ -1,4 +1,5 @@
--- The kinds of the 256 byte values (document 01, "The text"), by their meaning.
+-- The kinds of the 256 byte values (T5), by their meaning. No verdict rests on them: the reader asks only for digits (`is-digit`,
+-- `no-digit`: proofs/KindTable).
 use Prim.Native.Nat.{ℕ}
 use mathlib.Core.Bool.{Bool, _&&_, _||_, cond}
 use lib.Dec.{leb, eqb}
@@ -7,7 +8,7 @@ use lib.Dec.{leb, eqb}
 abbrev pub between : ℕ → ℕ → ℕ → Bool
 between a b x = leb a x && leb x b
 
--- "The kinds of the 256 byte values (digit, small letter, bracket, sign, space, line end, other)": 0 to 6 in this order.
+-- T5: "Each of the 256 byte values has a kind: digit, small letter, bracket, sign, space, line end or other.": 0 to 6 in this order.
 unfoldable pub kindOf : ℕ → ℕ
 kindOf b =
     cond (between 48 57 b) 0

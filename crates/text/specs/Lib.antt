@@ -1,9 +1,10 @@
 pub mod Words
 pub mod Write
 pub mod Form
-pub mod Read
-pub mod Split
 pub mod Figures
+pub mod Split
+-- What is computed, and what mirrors the code on bytes: nothing in these has to be believed.
+pub mod Read
 pub mod Places
 pub mod Size
 pub mod Heads

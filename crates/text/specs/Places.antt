@@ -1,4 +1,5 @@
--- Places in a text: where reading stops, and what was read.
+-- Nothing in this file has to be believed: places in a text, as the code finds them. `end-at` and `end-bad` (proofs/Places) say what a
+-- place tells of reading.
 use Prim.Native.Nat.{ℕ, _+_, _-_}
 use mathlib.Core.Bool.{Bool, cond, _&&_}
 use mathlib.Core.List.{List}

@@ -1,4 +1,5 @@
--- The list reader (document 01, "The text"): from the bytes that are left, a value and the bytes after it, or nothing.
+-- Nothing in this file has to be believed: the form is what the writer (Write) puts, and `raw-exactly` (proofs/Lines) says that a line is
+-- read as a form exactly if it is written so. The list reader: from the bytes that are left, a value and the bytes after it, or nothing.
 use Prim.Native.Nat.{ℕ, zero, suc, _+_, _*_, _-_}
 use Prim.Native.String.{String}
 use mathlib.Core.Bool.{Bool, _&&_, cond}
@@ -6,12 +7,19 @@ use mathlib.Core.List.{List, [], _∷_, _++_, map}
 use lib.Dec.{leb, eqb}
 use lib.ListN.{length}
 use Rattle.logic.specs.declared.Sign.{Sign}
+use Rattle.logic.specs.declared.Sign.the-variants.{Positive, Negative}
 use Rattle.logic.specs.declared.Link.{Link}
+use Rattle.logic.specs.declared.Link.the-variants.{Eq, Mem, Sub}
 use Rattle.logic.specs.declared.Arrow.{Arrow}
+use Rattle.logic.specs.declared.Arrow.the-variants.{Sv, Si, Mv, Mi, St, Mt}
 use Rattle.logic.specs.declared.Rule.{Rule}
-use Rattle.logic.specs.Syntax.{Term, var, app, Terms, nil, cons, Result, value, none, mayBeNone, Atom, link, obj, method, Literal, lit, Clause, Line, sym, input, by}
-use Rattle.text.specs.Words.{bytes, signWord, signs, linkWord, links, arrowWord, arrows, ruleWord, rules}
-use Rattle.text.specs.Form.{maxNumber}
+use Rattle.logic.specs.declared.Rule.the-variants.{Refl, Res, Fac, Par, Acy, Tra, Inc, Inh, Inp, Out, Sca, Eli}
+use Rattle.logic.specs.Syntax.{Term, var, app, Terms, nil, cons, Result, value, none, mayBeNone}
+use Rattle.logic.specs.Syntax.{Atom, link, obj, method, Literal, lit, Clause}
+use Rattle.logic.specs.Syntax.{Line, sym, input, by}
+use Rattle.text.specs.Words.{bytes, signWord, linkWord, arrowWord, ruleWord}
+use Rattle.text.specs.Form.{maxNumber, Reading, form, noForm}
+use Rattle.text.specs.Split.{Raw, ended, unended}
 
 -- Nothing, or a value and the bytes after it.
 pub data Parsed (A : Type 0) : Type 0 where
@@ -22,16 +30,16 @@ abbrev pub Reader : Type 0 → Type 0
 Reader A = List ℕ → Parsed A
 
 -- What follows a value, on the bytes after it.
-abbrev pub after : {A B : Type 0} → Parsed A → (A → Reader B) → Parsed B
-after bad f = bad
-after (got a rest) f = f a rest
+abbrev pub andThen : {A B : Type 0} → Parsed A → (A → Reader B) → Parsed B
+andThen bad f = bad
+andThen (got a rest) f = f a rest
 
 infixl 20 _>>=_ _>>_
 abbrev pub _>>=_ : {A B : Type 0} → Reader A → (A → Reader B) → Reader B
-_>>=_ r f bs = after (r bs) f
+_>>=_ r f bs = andThen (r bs) f
 
 abbrev pub _>>_ : {A B : Type 0} → Reader A → Reader B → Reader B
-_>>_ r q bs = after (r bs) (λ _. q)
+_>>_ r q bs = andThen (r bs) (λ _. q)
 
 abbrev pub return : {A : Type 0} → A → Reader A
 return a bs = got a bs
@@ -64,6 +72,19 @@ unfoldable pub oneOf : {A : Type 0} → List (Branch A) → Reader A
 oneOf [] bs = bad
 oneOf ((w ⇒ r) ∷ others) bs = orElse (skip w bs) r (oneOf others) bs
 
+-- The tables of words.
+abbrev pub signs : List Sign
+signs = Positive ∷ Negative ∷ []
+
+abbrev pub links : List Link
+links = Eq ∷ Mem ∷ Sub ∷ []
+
+abbrev pub arrows : List Arrow
+arrows = Sv ∷ Si ∷ Mv ∷ Mi ∷ St ∷ Mt ∷ []
+
+abbrev pub rules : List Rule
+rules = Refl ∷ Res ∷ Fac ∷ Par ∷ Acy ∷ Tra ∷ Inc ∷ Inh ∷ Inp ∷ Out ∷ Sca ∷ Eli ∷ []
+
 -- A branch for each entry of a table of words.
 abbrev pub each : {A B : Type 0} → (A → String) → (A → Reader B) → List A → List (Branch B)
 each w r = map (λ a. w a ⇒ r a)
@@ -72,7 +93,7 @@ each w r = map (λ a. w a ⇒ r a)
 unfoldable pub digit : ℕ → Bool
 digit b = leb 48 b && leb b 57
 
--- "0 to 65,535, without leading zeros": another digit may follow n and make it `further`.
+-- T4: "0 to 65,535, without leading zeros": another digit may follow n and make it `further`.
 unfoldable pub goesOn : ℕ → ℕ → Bool
 goesOn n further = leb 1 n && leb further maxNumber
 
@@ -85,7 +106,7 @@ readDigits n (b ∷ bs) =
     let checked = cond (goesOn n further) onward bad in
     cond (digit b) checked (got n (b ∷ bs))
 
--- "A number N is decimal, 0 to 65,535, without leading zeros."
+-- T4: "A number N is decimal, 0 to 65,535, without leading zeros."
 unfoldable pub readNumber : Reader ℕ
 readNumber [] = bad
 readNumber (b ∷ bs) =
@@ -112,26 +133,26 @@ readMany empty more read bs = readItems empty more read (length bs) bs
 abbrev pub readTerms : Reader Term → Reader Terms
 readTerms read = readMany nil cons read
 
--- "`(v N)`, a variable"
+-- T11: "`(v N)` is variable N."
 unfoldable pub readVariable : Reader Term
 readVariable = do
   n ← readNumber
   skip ")"
   return (var n)
 
--- "`(f N TERM ...)`, symbol N applied"
+-- T11: "`(f N TERM ...)` is symbol N applied to the terms."
 unfoldable pub readApplied : Reader Term → Reader Term
 readApplied read = do
   n ← readNumber
   ts ← readTerms read
   return (app n ts)
 
--- "Terms nest at most 16 terms deep, the outermost counting as 1; a deeper one isn't a form."
+-- T12: "Terms nest at most 16 terms deep, the outermost counting as 1. A line with a deeper term isn't a form."
 unfoldable pub readTerm : ℕ → Reader Term
 readTerm zero bs = bad
 readTerm (suc depth) bs = oneOf (("(v " ⇒ readVariable) ∷ ("(f " ⇒ readApplied (readTerm depth)) ∷ []) bs
 
--- "arguments (perhaps `()`)"
+-- T13: "the arguments T ..., perhaps none at all".
 unfoldable pub readArguments : ℕ → Reader Terms
 readArguments depth =
     oneOf (("()" ⇒ return nil) ∷ ("(" ⇒ (do
@@ -139,7 +160,7 @@ readArguments depth =
       ts ← readTerms (readTerm depth)
       return (cons t ts))) ∷ [])
 
--- "R is a term; for mv, mi, st, mt it may be the word `none`"
+-- T15: "The result R is a term. With mv, mi, st and mt it may be the word `none` instead".
 -- (The empty word: whatever else stands there is read as a term.)
 unfoldable pub readResult : ℕ → Arrow → Reader Result
 readResult depth a =
@@ -147,7 +168,7 @@ readResult depth a =
       t ← readTerm depth
       return (value t))) ∷ [])
 
--- "T U)" after the word
+-- T13: "T U)" after the word
 unfoldable pub readLink : ℕ → Link → Reader Atom
 readLink depth l = do
   skip " "
@@ -157,7 +178,7 @@ readLink depth l = do
   skip ")"
   return (link l t u)
 
--- "T)" after the word
+-- T13: "T)" after the word
 unfoldable pub readObject : ℕ → Reader Atom
 readObject depth = do
   skip " "
@@ -165,7 +186,7 @@ readObject depth = do
   skip ")"
   return (obj t)
 
--- "O M (T ...) R)" after the word
+-- T13: "O M (T ...) R)" after the word
 unfoldable pub readMethod : ℕ → Arrow → Reader Atom
 readMethod depth a = do
   skip " "
@@ -183,7 +204,7 @@ readMethod depth a = do
 unfoldable pub readKind : ℕ → Reader Atom
 readKind depth = oneOf (each linkWord (readLink depth) links ++ ("obj" ⇒ readObject depth) ∷ each arrowWord (readMethod depth) arrows)
 
--- "ATOM: `(eq T U)` equality; `(mem T U)` T : U; `(sub T U)` T :: U; `(obj T)` T[]; `(ARROW O M (T ...) R)`"
+-- T13: `(eq T U)`, `(mem T U)`, `(sub T U)`, `(obj T)`, `(ARROW O M (T ...) R)`.
 unfoldable pub readAtom : ℕ → Reader Atom
 readAtom depth = do
   skip "("
@@ -192,7 +213,7 @@ readAtom depth = do
 unfoldable pub readSign : Reader Sign
 readSign = oneOf (each signWord return signs)
 
--- "LIT is `(+ ATOM)` or `(- ATOM)`."
+-- T16: `(+ ATOM)`, `(- ATOM)`.
 unfoldable pub readLiteral : ℕ → Reader Literal
 readLiteral depth = do
   skip "("
@@ -202,37 +223,38 @@ readLiteral depth = do
   skip ")"
   return (lit s a)
 
--- "CLAUSE is `(or LIT ...)`, perhaps `(or)`."
+-- T16: "`(or LIT ...)` is the clause of these literals, `(or)` the empty one."
 unfoldable pub readClause : ℕ → Reader Clause
 readClause depth = do
   skip "(or"
   readMany [] _∷_ (readLiteral depth)
 
--- "LET is `(let TERM ...)`, perhaps `(let)`."
+-- T6, T9: a list, `(let TERM ...)`, perhaps `(let)`.
 unfoldable pub readLet : ℕ → Reader Terms
 readLet depth = do
   skip "(let"
   readTerms (readTerm depth)
 
--- "RULE is a word of the rule table below, any other isn't a form"
+-- T10: "RULE is one of the twelve words (R8 to R19). A line with any other isn't a form."
 unfoldable pub readRule : Reader Rule
 readRule = oneOf (each ruleWord return rules)
 
--- "`(sym K)`"
+-- T7: `(sym K)`.
 unfoldable pub readSym : Reader Line
 readSym = do
   k ← readNumber
   skip ")"
   return (sym k)
 
--- "`(in CLAUSE)`"
+-- T8: `(in CLAUSE)`.
 unfoldable pub readInput : ℕ → Reader Line
 readInput depth = do
   c ← readClause depth
   skip ")"
   return (input c)
 
--- "`(by RULE A I B J K LET LET CLAUSE)`: a step; the claim begins wherever the second list ends."
+-- T9: "`(by RULE A I B J K LET LET CLAUSE)` is a step. Its two lists are followed by the clause that it claims, which begins wherever the
+-- second list ends."
 unfoldable pub readStep : ℕ → Reader Line
 readStep depth = do
   rule ← readRule
@@ -255,14 +277,9 @@ readStep depth = do
   skip ")"
   return (by (record { rule = rule; a = a; i = i; b = b; j = j; k = k; first = first; second = second; claim = claim }))
 
--- "One form a line": a line's form and the bytes after it.
+-- T1, a line "is one form": a line's form and the bytes after it.
 unfoldable pub readForm : ℕ → Reader Line
 readForm depth = oneOf (("(sym " ⇒ readSym) ∷ ("(in " ⇒ readInput depth) ∷ ("(by " ⇒ readStep depth) ∷ [])
-
--- What a line is, read whole: a form, or not.
-pub data Reading : Type 0 where
-  form : Line → Reading
-  noForm : Reading
 
 -- Nothing may follow the form.
 unfoldable pub whole : Parsed Line → Reading
@@ -272,3 +289,8 @@ whole (got l (b ∷ bs)) = noForm
 
 unfoldable pub readLine : ℕ → List ℕ → Reading
 readLine depth bs = whole (readForm depth bs)
+
+-- T2: "Bytes after the last line end are one more line, and that line isn't a form."
+unfoldable pub readRaw : ℕ → Raw → Reading
+readRaw depth (ended bs) = readLine depth bs
+readRaw depth (unended bs) = noForm

@@ -1,35 +1,30 @@
--- A text as lines (document 01, "The text").
+-- A text as lines (T1, T2), and check 1 (V11).
 use Prim.Native.Nat.{ℕ}
-use mathlib.Core.Bool.{cond}
-use mathlib.Core.List.{List, [], _∷_, _++_}
-use lib.Dec.{eqb}
+use mathlib.Core.Bool.{Bool, cond, _||_}
+use mathlib.Core.List.{List, [], _∷_}
+use lib.Dec.{eqb, ltb}
+use lib.ListN.{length}
 use Rattle.text.specs.Words.{lineEnd}
-use Rattle.text.specs.Read.{Reading, noForm, readLine}
+use Rattle.text.specs.declared.Figures.{Figures}
 
--- "each line ended by byte 10"; "Bytes after the last line end form one more line"
+-- T1: "Every line ends with byte 10". T2: "Bytes after the last line end are one more line, and that line isn't a form."
 pub data Raw : Type 0 where
   ended : List ℕ → Raw
   unended : List ℕ → Raw
 
--- One byte more at the front of the first line.
+-- T1, T2: one byte more at the front of the first line.
 unfoldable pub push : ℕ → List Raw → List Raw
 push b [] = unended (b ∷ []) ∷ []
 push b (ended bs ∷ lines) = ended (b ∷ bs) ∷ lines
 push b (unended bs ∷ lines) = unended (b ∷ bs) ∷ lines
 
+-- T1, T2: the lines of a text.
 unfoldable pub split : List ℕ → List Raw
 split [] = []
 split (b ∷ bs) =
     let lines = split bs in
     cond (eqb b lineEnd) (ended [] ∷ lines) (push b lines)
 
--- "Bytes after the last line end form one more line, which isn't a form."
-unfoldable pub readRaw : ℕ → Raw → Reading
-readRaw depth (ended bs) = readLine depth bs
-readRaw depth (unended bs) = noForm
-
--- The lines' bytes, one after the other.
-unfoldable pub join : List Raw → List ℕ
-join [] = []
-join (ended bs ∷ lines) = bs ++ (lineEnd ∷ join lines)
-join (unended bs ∷ lines) = bs ++ join lines
+-- V11, check 1: "the text has too many bytes or lines".
+unfoldable pub tooLarge : Figures → List ℕ → Bool
+tooLarge F text = ltb (F .bytes) (length text) || ltb (F .lines) (length (split text))

@@ -1,4 +1,4 @@
--- The words of the text form (document 01, "The text").
+-- The words of the text form (T6).
 use Prim.Native.Nat.{ℕ}
 use Prim.Native.Char.{code}
 use Prim.Native.String.{String, [] as []ˢ, _∷_ as _∷ˢ_}
@@ -12,33 +12,28 @@ use Rattle.logic.specs.declared.Arrow.the-variants.{Sv, Si, Mv, Mi, St, Mt}
 use Rattle.logic.specs.declared.Rule.{Rule}
 use Rattle.logic.specs.declared.Rule.the-variants.{Refl, Res, Fac, Par, Acy, Tra, Inc, Inh, Inp, Out, Sca, Eli}
 
--- A word as its bytes.
+-- T6, "the bytes themselves": a word as its bytes.
 abbrev pub bytes : String → List ℕ
 bytes []ˢ = []
 bytes (c ∷ˢ w) = code c ∷ bytes w
 
--- "each line ended by byte 10"
+-- T1: "Every line ends with byte 10".
 abbrev pub lineEnd : ℕ
 lineEnd = 10
 
--- "LIT is `(+ ATOM)` or `(- ATOM)`."
+-- T16: "`(+ ATOM)` is a positive literal, `(- ATOM)` a negative one."
 abbrev pub signWord : Sign → String
 signWord Positive = "+"
 signWord Negative = "-"
 
-abbrev pub signs : List Sign
-signs = Positive ∷ Negative ∷ []
-
--- "`(eq T U)` equality; `(mem T U)` T : U; `(sub T U)` T :: U"
+-- T13: "`(eq T U)` is equality; `(mem T U)` is T : U; `(sub T U)` is T :: U".
 abbrev pub linkWord : Link → String
 linkWord Eq = "eq"
 linkWord Mem = "mem"
 linkWord Sub = "sub"
 
-abbrev pub links : List Link
-links = Eq ∷ Mem ∷ Sub ∷ []
-
--- "ARROW: sv scalar value, si inheritable scalar, mv set value, mi inheritable set, st scalar signature, mt set signature."
+-- T14: "sv is a scalar value, si an inheritable scalar value, mv a set value, mi an inheritable set value, st a scalar signature, mt a
+-- set signature."
 abbrev pub arrowWord : Arrow → String
 arrowWord Sv = "sv"
 arrowWord Si = "si"
@@ -47,10 +42,7 @@ arrowWord Mi = "mi"
 arrowWord St = "st"
 arrowWord Mt = "mt"
 
-abbrev pub arrows : List Arrow
-arrows = Sv ∷ Si ∷ Mv ∷ Mi ∷ St ∷ Mt ∷ []
-
--- "RULE is a word of the rule table below, any other isn't a form"
+-- T10: "RULE is one of the twelve words (R8 to R19). A line with any other isn't a form."
 abbrev pub ruleWord : Rule → String
 ruleWord Refl = "refl"
 ruleWord Res = "res"
@@ -64,6 +56,3 @@ ruleWord Inp = "inp"
 ruleWord Out = "out"
 ruleWord Sca = "sca"
 ruleWord Eli = "eli"
-
-abbrev pub rules : List Rule
-rules = Refl ∷ Res ∷ Fac ∷ Par ∷ Acy ∷ Tra ∷ Inc ∷ Inh ∷ Inp ∷ Out ∷ Sca ∷ Eli ∷ []

@@ -1,35 +1,33 @@
 -- The written form of a derivation passes every check, and what passes every check is the written form of a derivation.
-use Prim.Native.Nat.{ℕ, zero, suc}
-use mathlib.Core.Bool.{Bool, true, false, not, _&&_}
+use Prim.Native.Nat.{ℕ, suc}
+use mathlib.Core.Bool.{not, _&&_}
 use mathlib.Core.List.{List, [], _∷_, _++_, map, append-nil, append-assoc}
 use mathlib.Core.Path.{_≡_, refl, sym, ap, subst, _∙_}
 use lib.Dec.{T}
-use lib.ListN.{length, getD}
+use lib.ListN.{getD}
 use Rattle.logic.specs.Syntax.{Clause, Step, Line, sym as symLine, input, by}
 use Rattle.logic.specs.Each.{eachTerms, eachClause, declares, any, allowedClause, overClause}
-use Rattle.logic.specs.Checks.{AllPass}
-use Rattle.logic.specs.Judge.{Given}
-use Rattle.logic.specs.Derivation.{Derivation, AllOver, WrittenForm, linesOf}
+use Rattle.logic.specs.StepChecks.{AllPass}
+use Rattle.logic.specs.Derivation.{AllOver, WrittenForm, linesOf}
 use Rattle.logic.proofs.Both.{left, right, both}
 use Rattle.logic.proofs.Steps.{given→all}
 use Rattle.logic.proofs.Entailment.{ClauseOver, AllGiven}
 use Rattle.logic.proofs.Over.{over-allowed}
-use Rattle.logic.proofs.Written.{all-written, all-given, ClaimsAllowed, inferenceOf}
-use Rattle.text.specs.Read.{Reading, form, noForm}
-use Rattle.text.specs.Write.{writeLines}
-use Rattle.text.specs.Form.{formedNumber, formedTerms, formedClause, formedStep, formedLine, formedLines}
-use Rattle.text.specs.Split.{split, readRaw}
-use Rattle.text.specs.Figures.{Figures}
-use Rattle.reader.specs.State.{State, fresh, clauses, claimOf, advance, isEmpty, ordered, hasConstant, constantReady, withinLimits, symbolsDeclared, lineChecks, after, stateAfter}
+use Rattle.logic.proofs.Written.{all-written, all-given, inferenceOf}
+use Rattle.text.specs.Form.{Reading, form, noForm, formedNumber, formedClause, formedLine, formedLines}
+use Rattle.text.specs.Read.{readRaw}
+use Rattle.text.specs.Split.{split}
+use Rattle.text.specs.declared.Figures.{Figures}
+use Rattle.reader.specs.State.{State, fresh, clauses, claimOf, advance, isEmpty, ordered, hasConstant, constantReady, symbolsDeclared, lineChecks, after, stateAfter}
 use Rattle.text.proofs.Deep.{formedSymbol, formed-over}
 use Rattle.text.proofs.Lines.{lines-complete, lines-sound}
-use Rattle.verdict.specs.Checks.{readings, tooLarge, stepPart, checksOf, checksAt, stateOf, tableOf, inputsOf, clausesOf, Accepted}
-use Rattle.verdict.specs.Guarantee.{LinesWithin, Within, WrittenText}
+use Rattle.verdict.specs.Checks.{readings, tooLarge, stepPart, checksOf, checksAt, stateOf, tableOf, Accepted}
+use Rattle.verdict.specs.Guarantee.{LinesWithin, WrittenText}
 use Rattle.verdict.proofs.Meaning.{all-lines}
-use Rattle.verdict.proofs.Entailed.{Good, accepted-good, empty-list, not-a-form}
+use Rattle.verdict.proofs.Entailed.{accepted-good, empty-list, not-a-form}
 
 abbrev Passes : Figures → State → List Reading → Type 0
-Passes F st rs = (m : ℕ) → AllPass (checksAt F st rs m)
+Passes F st rs = (m : ℕ) → AllPass (checksAt st rs m)
 
 abbrev at : List ℕ → List Clause → List Step → State
 at table inputs steps = record { symbols = table; inputs = inputs; steps = steps }
@@ -44,7 +42,7 @@ claims-last inputs ss s = append-assoc inputs (map claimOf ss) (s .claim ∷ [])
 module _ (F : Figures) (table : List ℕ) where
   -- by lines, each given by the rules.
   steps-pass : (inputs : List Clause) (before ss : List Step) → T (hasConstant table) →
-      AllGiven table (inputs ++ map claimOf before) ss → LinesWithin F (at table inputs before) (map by ss) → Passes F (at table inputs before) (map form (map by ss))
+      AllGiven table (inputs ++ map claimOf before) ss → LinesWithin (at table inputs before) (map by ss) → Passes F (at table inputs before) (map form (map by ss))
   unfolding checksOf lineChecks AllPass ordered constantReady symbolsDeclared advance AllGiven stepPart clauses checksAt LinesWithin after
   steps-pass inputs before [] k g w = λ m. tt
   steps-pass inputs before (s ∷ ss) k g w =
@@ -57,7 +55,7 @@ module _ (F : Figures) (table : List ℕ) where
 
   -- in lines over the table, then the by lines.
   inputs-pass : (before inputs : List Clause) (ss : List Step) → T (hasConstant table) → AllOver table inputs →
-      AllGiven table (before ++ inputs) ss → LinesWithin F (at table before []) (map input inputs ++ map by ss) →
+      AllGiven table (before ++ inputs) ss → LinesWithin (at table before []) (map input inputs ++ map by ss) →
       Passes F (at table before []) (map form (map input inputs ++ map by ss))
   unfolding checksOf lineChecks AllPass ordered isEmpty constantReady symbolsDeclared advance stepPart LinesWithin after AllOver overClause
   inputs-pass before [] ss k o g w = steps-pass before [] ss k g w
@@ -68,7 +66,7 @@ module _ (F : Figures) (table : List ℕ) where
 
 -- sym lines, then the others.
 syms-pass : (F : Figures) (before table : List ℕ) (inputs : List Clause) (ss : List Step) → T (hasConstant (before ++ table)) → AllOver (before ++ table) inputs →
-    AllGiven (before ++ table) inputs ss → LinesWithin F (at before [] []) (linesOf table inputs ss) →
+    AllGiven (before ++ table) inputs ss → LinesWithin (at before [] []) (linesOf table inputs ss) →
     Passes F (at before [] []) (map form (linesOf table inputs ss))
 unfolding linesOf checksOf lineChecks AllPass ordered isEmpty constantReady symbolsDeclared advance stepPart LinesWithin after
 syms-pass F before [] inputs ss k o g w = let e = append-nil before in inputs-pass F before [] inputs ss (rw e at k) (rw e at o) (rw e at g) w
@@ -105,8 +103,8 @@ written-accepted F text w =
     record {
       small = subst (λ t. T (not (tooLarge F t))) (sym (w .bytes)) (w .within .small);
       passes = rw read (syms-pass F [] (w .table) (d .inputs) ss (w .constant) (d .inputs-over)
-          (all-written (w .table) (d .inputs) (d .inferences) ss (d .follow) (w .written .1))
-          (subst (LinesWithin F fresh) (w .written .2) (w .within .limits)));
+          (all-written (w .table) (d .inputs) (d .inferences) ss (d .inputs-over) (d .follow) (w .written .1))
+          (subst (LinesWithin fresh) (w .written .2) (w .within .limits)));
       constant = subst (λ (st : State). T (hasConstant (st .symbols))) (sym (ap (stateAfter fresh) read ∙ state-lines [] (w .table) (d .inputs) ss)) (w .constant);
     }
 
@@ -117,7 +115,7 @@ forms F st [] p = ([], refl)
 forms F st (form l ∷ rs) p = let w = forms F (advance st l) rs (λ m. p (suc m)) in (l ∷ w .0, ap (λ qs. form l ∷ qs) (w .1))
 forms F st (noForm ∷ rs) p = not-a-form F st (p 0)
 
-passes-within : (F : Figures) (st : State) (ls : List Line) → Passes F st (map form ls) → LinesWithin F st ls
+passes-within : (F : Figures) (st : State) (ls : List Line) → Passes F st (map form ls) → LinesWithin st ls
 unfolding checksAt after checksOf lineChecks AllPass LinesWithin
 passes-within F st [] p = tt
 passes-within F st (l ∷ ls) p = (p 0 .1 .1 .1 .0, passes-within F (advance st l) ls (λ m. p (suc m)))
@@ -162,18 +160,6 @@ inputs-over table d (c ∷ cs) f o = (
   inputs-over table d cs (right (formedClause d c) (formedLines d (map input cs)) f) (λ n. o (suc n)),
 )
 
-formed-claim : (d : ℕ) (s : Step) → T (formedStep d s) → T (formedClause d (s .claim))
-unfolding formedStep
-formed-claim d s h =
-    right (formedNumber (s .a) && formedNumber (s .i) && formedNumber (s .b) && formedNumber (s .j) && formedNumber (s .k)
-    && formedTerms d (s .first) && formedTerms d (s .second)) (formedClause d (s .claim)) h
-
-claims-allowed : (d : ℕ) (ss : List Step) → T (formedLines d (map by ss)) → ClaimsAllowed ss
-unfolding formedLines formedLine ClaimsAllowed
-claims-allowed d [] f = tt
-claims-allowed d (s ∷ ss) f =
-    (formed-clause d (s .claim) (formed-claim d s (left (formedStep d s) (formedLines d (map by ss)) f)), claims-allowed d ss (right (formedStep d s) (formedLines d (map by ss)) f))
-
 -- An accepted text is the written form of a derivation within the limits.
 pub accepted-written : (F : Figures) (text : List ℕ) → Accepted F text → WrittenText F text
 unfolding readings WrittenForm tableOf stateOf fresh linesOf
@@ -188,7 +174,7 @@ accepted-written F text a =
     let f : T (formedLines (F .depth) (linesIn st)) = rw e (w .1) in
     let f₁ = formed-append (F .depth) (map symLine (st .symbols)) (map input (st .inputs) ++ map by (st .steps)) f .1 in
     let f₂ = formed-append (F .depth) (map input (st .inputs)) (map by (st .steps)) f₁ in
-    let k = all-given (st .symbols) (st .inputs) (st .steps) (g .given) (claims-allowed (F .depth) (st .steps) (f₂ .1)) in
+    let k = all-given (st .symbols) (st .inputs) (st .steps) (g .given) in
     record {
       table = st .symbols;
       constant = a .constant;

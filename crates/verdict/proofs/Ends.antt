@@ -10,12 +10,12 @@ use borrow.Author.Tests.{lt-ltb, le-ltb}
 use lib.ListN.{length, getD, take, drop, length-take, drop-of-length-le}
 use lib.Seq.{drop-cons}
 use Rattle.logic.specs.Syntax.{Clause}
-use Rattle.reader.specs.declared.states.State as code
+use Rattle.reader.specs.declared.states.HeldState as code
 use Rattle.reader.specs.State.{State, clauses, hasConstant}
 use Rattle.reader.specs.ReadLine.{heldTable}
 use Rattle.reader.specs.Represents.{Represents}
 use Rattle.verdict.specs.declared.Verdict.the-variants.{Refuted, Open, Refused}
-use Rattle.verdict.specs.Answer.{isNil, firstEmpty, answer, finish}
+use Rattle.verdict.specs.Answer.{isNil, firstEmpty, acceptedAs, finish}
 
 -- A clause without literals.
 nil-or-not : (c : Clause) → ((length c ≡ 0) × (isNil c ≡ true)) ⊎ ((length c ≡ 0 → ⊥) × (isNil c ≡ false))
@@ -63,7 +63,7 @@ module _ (sizes : List ℕ) (held n : ℕ) (P : NoneBefore sizes held n) where
   all-passed l cs e S = sym (P cs e S ∙ rw (drop-of-length-le cs {i = n} (omega arith)) (omega arith))
 
 -- The answer, from what the state that the code holds says.
-module _ {text : List ℕ} {held : code.State} {st : State} (R : Represents text held st) where
+module _ {depth : ℕ} {text : List ℕ} {held : code.HeldState} {st : State} (R : Represents depth text held st) where
   pub symbols-within : held .symbols ≤ length (held .counts)
   unfolding heldTable
   symbols-within =
@@ -80,10 +80,10 @@ module _ {text : List ℕ} {held : code.State} {st : State} (R : Represents text
 
   pub finish-refuted : {first : ℕ} → hasConstant (take (held .symbols) (held .counts)) ≡ true → first ≡ firstEmpty (clauses st) → first < held .clauses →
       Refuted (held .clauses) first ≡ finish st
-  unfolding finish answer
+  unfolding finish acceptedAs
   finish-refuted {first} e f l = rw (constant-held e, ← f, ← R .count, lt-ltb first (held .clauses) l)
 
   pub finish-open : {first : ℕ} → hasConstant (take (held .symbols) (held .counts)) ≡ true → first ≡ firstEmpty (clauses st) → held .clauses ≤ first →
       Open (held .clauses) ≡ finish st
-  unfolding finish answer
+  unfolding finish acceptedAs
   finish-open {first} e f l = rw (constant-held e, ← f, ← R .count, le-ltb first (held .clauses) l)

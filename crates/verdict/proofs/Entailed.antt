@@ -1,28 +1,25 @@
 -- What the checks of an accepted text say of its table, inputs and steps, and from that the first two parts of the guarantee.
 use Prim.Native.Nat.{ℕ, zero, suc, _<_}
-use mathlib.Core.Bool.{Bool, true, false, not, _&&_, _||_}
+use mathlib.Core.Bool.{Bool, true, false, _&&_, _||_}
 use mathlib.Core.List.{List, [], _∷_, _++_, map, append-nil, append-assoc}
-use mathlib.Core.Path.{_≡_, refl, sym, ap, subst, _∙_}
+use mathlib.Core.Path.{_≡_, refl}
 use native.Mathlib.Omega.{arith}
-use lib.Dec.{T, eqb, eqb→eq, eqb-refl}
+use lib.Dec.{T, eqb}
 use lib.ListN.{length, getD}
-use Rattle.logic.specs.Syntax.{Term, app, Atom, Terms, nil, Clause, Step, Line, sym as symLine, input, by}
+use Rattle.logic.specs.Syntax.{app, Atom, nil, Clause, Step, Line, sym as symLine, input, by}
 use Rattle.logic.specs.Terms.{count}
 use Rattle.logic.specs.Each.{eachTerm, eachTerms, eachClause, declares, any, groundTerm}
 use Rattle.logic.specs.Fill.{Substitution, fillClause}
-use Rattle.logic.specs.Checks.{AllPass}
-use Rattle.logic.specs.Judge.{stepChecks, Given}
-use Rattle.logic.specs.Structure.{Structure, Reading, Models, ModelsAll, Satisfies, SomeLiteral, Grounds}
+use Rattle.logic.specs.StepChecks.{AllPass, Given}
+use Rattle.logic.specs.Structure.{Structure, Models, ModelsAll, Satisfies, SomeLiteral, Grounds}
 use Rattle.logic.proofs.Both.{left, right, both}
 use Rattle.logic.proofs.Steps.{all→given}
 use Rattle.logic.proofs.Entailment.{ListsOver, ClauseOver, AllGiven, ClosedUnderParents, over-before, steps-sound}
-use Rattle.text.specs.Read.{Reading as ReadLine, form, noForm}
-use Rattle.text.specs.Figures.{Figures}
-use Rattle.reader.specs.State.{State, fresh, clauses, claimOf, advance, isEmpty, ordered, hasConstant, constantReady, withinLimits, symbolsDeclared, lineChecks, after, stateAfter}
-use Rattle.verdict.specs.declared.Verdict.{Verdict}
-use Rattle.verdict.specs.declared.Verdict.the-variants.{Refuted, Open, Refused}
+use Rattle.text.specs.Form.{Reading, form, noForm}
+use Rattle.text.specs.declared.Figures.{Figures}
+use Rattle.reader.specs.State.{State, fresh, clauses, claimOf, advance, isEmpty, ordered, hasConstant, symbolsDeclared, lineChecks, after, stateAfter}
 use Rattle.verdict.specs.Checks.{readings, stepPart, checksOf, checksAt, stateOf, tableOf, inputsOf, clausesOf, Accepted}
-use Rattle.verdict.specs.Answer.{FirstEmpty, Means, verdict}
+use Rattle.verdict.specs.Means.{FirstEmpty}
 
 -- The inputs are clauses over the table, and each step is given by the rules, its lists and claim over the table.
 pub record Good (st : State) : Type 0 where
@@ -43,7 +40,7 @@ empty-list [] h = refl
 empty-list (x ∷ xs) h = absurd h
 
 -- A line that passes its checks keeps the state good.
-good-line : (F : Figures) (st : State) (l : Line) → Good st → AllPass (checksOf F st (form l)) → Good (advance st l)
+good-line : (F : Figures) (st : State) (l : Line) → Good st → AllPass (checksOf st (form l)) → Good (advance st l)
 unfolding checksOf lineChecks AllPass ordered symbolsDeclared advance AllGiven stepPart eachClause clauses
 good-line F st (symLine k) g w =
     let i = empty-list (st .inputs) (left (isEmpty (st .inputs)) (isEmpty (st .steps)) (w .1 .0)) in
@@ -65,11 +62,11 @@ good-line F st (by s) g w =
           (left a (b && c) d, left b c (right a (b && c) d)) (right b c (right a (b && c) d));
     }
 
-pub not-a-form : {P : Type 0} (F : Figures) (st : State) → AllPass (checksOf F st noForm) → P
+pub not-a-form : {P : Type 0} (F : Figures) (st : State) → AllPass (checksOf st noForm) → P
 unfolding checksOf AllPass
 not-a-form F st w = absurd (w .0)
 
-good-all : (F : Figures) (st : State) (rs : List ReadLine) → Good st → ((m : ℕ) → AllPass (checksAt F st rs m)) → Good (stateAfter st rs)
+good-all : (F : Figures) (st : State) (rs : List Reading) → Good st → ((m : ℕ) → AllPass (checksAt st rs m)) → Good (stateAfter st rs)
 unfolding stateAfter checksAt after
 good-all F st [] g w = g
 good-all F st (form l ∷ rs) g w = good-all F (advance st l) rs (good-line F st l g (w 0)) (λ m. w (suc m))
@@ -80,14 +77,14 @@ unfolding stateOf fresh AllGiven eachClause
 accepted-good F text a = good-all F fresh (readings F text) (record { inputs-over = λ n. tt; given = tt }) (a .passes)
 
 -- Each clause of a list is satisfied.
-module _ (R : Reading) (table : List ℕ) (H : Atom → Type 0) where
-  models-each : (cs : List Clause) → ModelsAll R table H cs → (n : ℕ) → n < length cs → Models R table H (getD cs n [])
+module _ (table : List ℕ) (H : Atom → Type 0) where
+  models-each : (cs : List Clause) → ModelsAll table H cs → (n : ℕ) → n < length cs → Models table H (getD cs n [])
   unfolding ModelsAll
   models-each [] m n h = absurd (omega arith)
   models-each (c ∷ cs) m zero h = m .0
   models-each (c ∷ cs) m (suc n) h = models-each cs (m .1) n (omega arith)
 
-  each-models : (cs : List Clause) → ((n : ℕ) → n < length cs → Models R table H (getD cs n [])) → ModelsAll R table H cs
+  each-models : (cs : List Clause) → ((n : ℕ) → n < length cs → Models table H (getD cs n [])) → ModelsAll table H cs
   unfolding ModelsAll
   each-models [] m = tt
   each-models (c ∷ cs) m = (m 0 (omega arith), each-models cs (λ n h. m (suc n) (omega arith)))
@@ -97,15 +94,15 @@ unfolding ClosedUnderParents
 all-closed cs [] = tt
 all-closed cs (s ∷ ss) = (λ h. (λ u. tt, λ u. tt), all-closed (cs ++ (s .claim ∷ [])) ss)
 
-pub accepted-entails : (F : Figures) (text : List ℕ) → Accepted F text → (R : Reading) (H : Atom → Type 0) → Structure (tableOf F text) H →
-    ModelsAll R (tableOf F text) H (inputsOf F text) → ModelsAll R (tableOf F text) H (clausesOf F text)
+pub accepted-entails : (F : Figures) (text : List ℕ) → Accepted F text → (H : Atom → Type 0) → Structure (tableOf F text) H →
+    ModelsAll (tableOf F text) H (inputsOf F text) → ModelsAll (tableOf F text) H (clausesOf F text)
 unfolding tableOf inputsOf clausesOf clauses
-accepted-entails F text a R H S m =
+accepted-entails F text a H S m =
     let st = stateOf F text in
     let g = accepted-good F text a in
-    each-models R (st .symbols) H (st .inputs ++ map claimOf (st .steps)) (λ n h.
-    steps-sound R H S (λ n. Unit) (st .inputs) (st .steps) (g .inputs-over) (g .given) (all-closed (st .inputs) (st .steps))
-    (λ n h u. models-each R (st .symbols) H (st .inputs) m n h) n h tt)
+    each-models (st .symbols) H (st .inputs ++ map claimOf (st .steps)) (λ n h.
+    steps-sound H S (λ n. Unit) (st .inputs) (st .steps) (g .inputs-over) (g .given) (all-closed (st .inputs) (st .steps))
+    (λ n h u. models-each (st .symbols) H (st .inputs) m n h) n h tt)
 
 -- A table with a symbol without arguments has a ground term.
 constant-declared : (table : List ℕ) → T (hasConstant table) → (f : ℕ) × T (declares table f 0)
@@ -128,12 +125,12 @@ empty-clause n [] h = absurd h
 empty-clause zero (c ∷ cs) h = (omega arith, h)
 empty-clause (suc n) (c ∷ cs) h = let w = empty-clause n cs (h .1) in (omega arith, w .1)
 
-pub refuted-none : (F : Figures) (text : List ℕ) (n : ℕ) → Accepted F text → FirstEmpty n (clausesOf F text) → (R : Reading) (H : Atom → Type 0) → Structure (tableOf F text) H →
-    ModelsAll R (tableOf F text) H (inputsOf F text) → ⊥
+pub refuted-none : (F : Figures) (text : List ℕ) (n : ℕ) → Accepted F text → FirstEmpty n (clausesOf F text) → (H : Atom → Type 0) → Structure (tableOf F text) H →
+    ModelsAll (tableOf F text) H (inputsOf F text) → ⊥
 unfolding Models Satisfies fillClause SomeLiteral
-refuted-none F text n a e R H S m =
+refuted-none F text n a e H S m =
     let w = empty-clause n (clausesOf F text) e in
-    let k = models-each R (tableOf F text) H (clausesOf F text) (accepted-entails F text a R H S m) n (w .0) in
+    let k = models-each (tableOf F text) H (clausesOf F text) (accepted-entails F text a H S m) n (w .0) in
     let g = ground-substitution (tableOf F text) (a .constant) in
-    let none : Models R (tableOf F text) H [] = rw (w .1) at k in
-    R .consistent (none (g .0) (g .1))
+    let none : Models (tableOf F text) H [] = rw (w .1) at k in
+    none (g .0) (g .1) (λ h. h)

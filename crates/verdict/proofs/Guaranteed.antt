@@ -1,17 +1,16 @@
 -- The guarantee holds of every text and its verdict, and accepted texts are exactly the written derivations within the limits.
 use Prim.Native.Nat.{ℕ}
-use mathlib.Core.Bool.{Bool, true, false}
 use mathlib.Core.List.{List}
 use mathlib.Core.Logic.{_↔_}
 use mathlib.Core.Path.{_≡_, refl, sym, subst}
 use lib.Dec.{T}
-use Rattle.logic.specs.Structure.{Reading, plainly, truncated, notNot}
-use Rattle.text.specs.Figures.{Figures}
+use Rattle.text.specs.declared.Figures.{Figures}
 use Rattle.verdict.specs.declared.Verdict.{Verdict}
 use Rattle.verdict.specs.declared.Verdict.the-variants.{Refuted, Open, Refused}
 use Rattle.verdict.specs.Checks.{clausesOf, Accepted}
-use Rattle.verdict.specs.Answer.{FirstEmpty, Means, verdict}
-use Rattle.verdict.specs.Guarantee.{isAccepted, WrittenText, Guarantee}
+use Rattle.verdict.specs.Answer.{verdict}
+use Rattle.verdict.specs.Means.{FirstEmpty, Means}
+use Rattle.verdict.specs.Guarantee.{isAccepted, WrittenText, WholeClaim, Guarantee}
 use Rattle.verdict.proofs.Meaning.{verdict-means, verdict-exactly, accepted-or-refused}
 use Rattle.verdict.proofs.Entailed.{accepted-entails, refuted-none}
 use Rattle.verdict.proofs.Accepts.{written-accepted, accepted-written}
@@ -41,19 +40,22 @@ module _ (F : Figures) (text : List ℕ) where
   unfolding Means
   accepted-refuted count first m = m .0
 
-  -- Demand 3, for every text, broken or not, every reading of "satisfies" and every kind of set.
-  pub guaranteed : (R : Reading) {Value : Type 0} (True : Value → Type 0) → Guarantee R True F text (verdict F text)
-  guaranteed R True = record {
-    refuted = λ count first e S.
-        let m = verdict-exactly F text (Refuted count first) .0 e in
-        refuted-none F text first (accepted-refuted count first m) (first-of count first m) R (λ x. True (S x));
-    entailed = λ h S. accepted-entails F text (accepted-exactly .0 h) R (λ x. True (S x));
-    accepts = λ w. accepted-exactly .1 (written-accepted F text w);
+  -- The whole claim holds of every text and the verdict that is meant.
+  pub whole-claim : (v : Verdict) → Means F text v → WholeClaim F text v
+  whole-claim v m = record {
+    sound = λ H. record {
+      refuted = λ count first e. let w = subst (Means F text) e m in refuted-none F text first (accepted-refuted count first w) (first-of count first w) H;
+      entailed = λ h. accepted-entails F text (accepted-here v m h) H;
+    };
+    accepts = λ w. here-accepted v m (written-accepted F text w);
   }
 
+  pub guaranteed : (v : Verdict) → Means F text v → Guarantee F text v
+  guaranteed v m = let w = whole-claim v m in record { sound = λ S. w .sound (λ x. T (S x)); accepts = w .accepts }
+
   -- What `check` promises, from its equation.
-  pub answered : (v : Verdict) → v ≡ verdict F text → (v ≡ verdict F text) × (Guarantee plainly T F text v × (Guarantee truncated T F text v × Guarantee notNot T F text v))
-  answered v e = (e, rw e (guaranteed plainly T, (guaranteed truncated T, guaranteed notNot T)))
+  pub answered : (v : Verdict) → v ≡ verdict F text → (v ≡ verdict F text) × (Means F text v × (Guarantee F text v × (text ≡ text)))
+  answered v e = let m = verdict-exactly F text v .0 (sym e) in (e, (m, (guaranteed v m, refl)))
 
   -- "Accepted" and "a written derivation within the limits" are the same.
   pub accepted-is-written : T (isAccepted (verdict F text)) ↔ WrittenText F text

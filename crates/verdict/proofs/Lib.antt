@@ -1,5 +1,6 @@
-pub mod Corners
 pub mod Meaning
+pub mod Examples
+pub mod Corners
 pub mod Entailed
 pub mod Accepts
 pub mod Guaranteed

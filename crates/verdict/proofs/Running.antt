@@ -5,35 +5,38 @@ use mathlib.Core.List.{List, [], _∷_, _++_, map}
 use mathlib.Core.Path.{_≡_, refl, sym, ap, subst, _∙_}
 use native.Mathlib.Omega.{arith}
 use native.Mathlib.Numerals.{add-one}
-use borrow.Author.Tests.{eq-eqb, ne-eqb, lt-ltb, le-ltb, ltb-false}
+use native.Mathlib.Decide.{ℕ-discrete}
+use borrow.Author.Tests.{eq-eqb, ne-eqb, lt-ltb, le-ltb, ltb-true, ltb-false}
 use lib.Dec.{ltb}
 use lib.ListN.{length, getD, take, drop, length-append, length-map, length-drop, take-append-drop}
 use lib.Seq.{drop-drop}
 use Rattle.logic.specs.declared.Judged.{Judged}
 use Rattle.logic.specs.Syntax.{Step, by, input}
 use Rattle.logic.specs.Syntax as syntax
-use Rattle.logic.specs.Judge.{judgedNumber}
+use Rattle.logic.specs.StepChecks.{judgedNumber}
 use Rattle.lines.specs.declared.forms.LineAt.{LineAt}
-use Rattle.reader.specs.declared.states.State as code
+use Rattle.reader.specs.declared.states.HeldState as code
 use Rattle.reader.specs.declared.states.Seen.{Seen}
 use Rattle.reader.specs.declared.states.Added.{Added}
-use Rattle.text.specs.Read.{Reading, form, noForm, readLine}
-use Rattle.text.specs.Split.{Raw, ended, unended, split, readRaw}
-use Rattle.text.specs.Figures.{office}
-use Rattle.text.specs.Size.{lineLength, lineEndAt, endedAt, tooLarge}
+use Rattle.text.specs.Form.{Reading, form, noForm}
+use Rattle.text.specs.Read.{strip, oneOf, readForm, whole, readLine, readRaw}
+use Rattle.text.specs.Split.{Raw, ended, unended, split, tooLarge}
+use Rattle.text.specs.declared.Figures.{Figures}
+use Rattle.text.specs.Figures.{office, maxSymbols, UpToOffice}
+use Rattle.text.specs.Size.{lineLength, lineEndAt, endedAt}
 use Rattle.lines.specs.LineAt.{formNumber, lineOf}
-use Rattle.reader.specs.ReadLine.{freshState, heldTable, seenAt, addedBy, withSymbol, withAdded, hasRoom, addedTo}
-use Rattle.reader.specs.State.{State, fresh, claimOf, clauses, advance, ordered, constantReady, withinLimits, symbolsDeclared, lineFailure, after}
-use Rattle.reader.specs.Represents.{Represents, readFailure}
+use Rattle.reader.specs.ReadLine.{withSymbol, withClause, withAdded, slotOf}
+use Rattle.reader.specs.State.{State, fresh, claimOf, clauses, advance, ordered, constantReady, withinLimits, symbolsDeclared, after}
+use Rattle.reader.specs.Failure.{lineFailure, readFailure}
+use Rattle.reader.specs.Represents.{Represents, Begins, Sees, LineStands, Adds}
 use Rattle.text.proofs.Places.{at-byte, past}
 use Rattle.text.proofs.Sizes.{split-at, split-over, ended-length}
-use Rattle.reader.proofs.Held.{fresh-represents, line-seen, line-state}
 use Rattle.verdict.specs.declared.Verdict.{Verdict}
 use Rattle.verdict.specs.declared.Verdict.the-variants.{Refused}
-use Rattle.verdict.specs.declared.Checked.{Checked}
+use Rattle.verdict.specs.declared.HeldClause.{HeldClause}
 use Rattle.verdict.specs.Checks.{readings}
 use Rattle.verdict.specs.Answer.{stepFailure, failure, readOn}
-use Rattle.verdict.specs.Running.{Tells, Room, Ended, Next, Finishes, JudgesRead}
+use Rattle.verdict.specs.Running.{lineBytes, HeldOf, JudgesRead, FirstFailing, Finishes}
 use Rattle.verdict.proofs.Ends.{symbols-within}
 
 -- Checks 2 to 6, and then those of a step.
@@ -52,16 +55,16 @@ unfoldable ofStep : State → Reading → ℕ
 ofStep st noForm = 0
 ofStep st (form l) = stepFailure st l
 
-read-then : (st : State) (r : Reading) → Then (readFailure st r) (ofStep st r) (failure office st r)
+read-then : (st : State) (r : Reading) → Then (readFailure st r) (ofStep st r) (failure st r)
 unfolding readFailure failure lineFailure ofStep Then
 read-then st noForm = (λ h. absurd (omega arith), λ _. refl)
-read-then st (form l) = checks-then (ordered st l) (constantReady st l) (withinLimits office st l) (symbolsDeclared st l) (stepFailure st l)
+read-then st (form l) = checks-then (ordered st l) (constantReady st l) (withinLimits st l) (symbolsDeclared st l) (stepFailure st l)
 
-passed-then : (st : State) (r : Reading) → readFailure st r ≡ 0 → failure office st r ≡ ofStep st r
+passed-then : (st : State) (r : Reading) → readFailure st r ≡ 0 → failure st r ≡ ofStep st r
 unfolding Then
 passed-then st r = read-then st r .0
 
-failed-then : (st : State) (r : Reading) → (readFailure st r ≡ 0 → ⊥) → failure office st r ≡ readFailure st r
+failed-then : (st : State) (r : Reading) → (readFailure st r ≡ 0 → ⊥) → failure st r ≡ readFailure st r
 unfolding Then
 failed-then st r = read-then st r .1
 
@@ -80,53 +83,29 @@ a-step table bytes (form (syntax.sym k)) e = absurd (omega arith)
 a-step table bytes (form (input c)) e = absurd (omega arith)
 a-step table bytes (form (by s)) e = (s, refl)
 
--- An ended line, as it was seen, and what it adds.
-module _ {text : List ℕ} {held : code.State} {st : State} (R : Represents text held st) (room : Room text held) (line rest : List ℕ) (at : ℕ) (l : at ≤ length text) (d : drop at text ≡ line ++ rest)
-    {s : Seen} {a : Added} (e : s ≡ seenAt (heldTable held) (held .symbols) (held .clauses) (held .inputs) line) (f : a ≡ addedBy at (s .line)) where
-  full : held .clauses < 1024
-  unfolding Room
-  full = room .0
+-- A line as it was seen, and what the rules say where it is a step.
+module _ {depth : ℕ} {text : List ℕ} {held : code.HeldState} {st : State} (R : Represents depth text held st) (line : List ℕ) (s : Seen)
+    (f : s .failure ≡ readFailure st (readLine depth line)) (e : s .line ≡ lineOf (st .symbols) line (readLine depth line)) where
+  pub fails-read : (s .failure ≡ 0 → ⊥) → s .failure ≡ failure st (readLine depth line)
+  fails-read n = f ∙ sym (failed-then st (readLine depth line) (λ z. n (f ∙ z)))
 
-  small : length text ≤ 65535
-  unfolding Room
-  small = room .1
+  passes : s .failure ≡ 0 → readFailure st (readLine depth line) ≡ 0
+  passes z = sym f ∙ z
 
-  seen-failure : s .failure ≡ readFailure st (readLine 16 line)
-  seen-failure = ap (λ (s : Seen). s .failure) (e ∙ line-seen R full line at)
+  pub fails-none : s .failure ≡ 0 → (formNumber (s .line .form) ≡ 3 → ⊥) → 0 ≡ failure st (readLine depth line)
+  fails-none z n =
+      let r = readLine depth line in
+      sym (passed-then st r (passes z) ∙ no-step st (st .symbols) line r (λ q. n (ap (λ (l : LineAt). formNumber (l .form)) e ∙ q)))
 
-  seen-line : s .line ≡ lineOf (st .symbols) line (readLine 16 line)
-  seen-line = ap (λ (s : Seen). s .line) (e ∙ line-seen R full line at)
-
-  passes : s .failure ≡ 0 → readFailure st (readLine 16 line) ≡ 0
-  passes z = sym seen-failure ∙ z
-
-  state-after : s .failure ≡ 0 → Represents text (withAdded held a) (after st (readLine 16 line))
-  state-after z = rw (f, seen-line) (line-state R full small line rest at l d (passes z))
-
-  pub tells-failed : (s .failure ≡ 0 → ⊥) → Tells text held st (readLine 16 line) (record { failure = s .failure; adds = a })
-  unfolding Tells
-  tells-failed n = (seen-failure ∙ sym (failed-then st (readLine 16 line) (λ z. n (seen-failure ∙ z))), λ z. absurd (n z))
-
-  pub tells-passed : s .failure ≡ 0 → (formNumber (s .line .form) ≡ 3 → ⊥) → Tells text held st (readLine 16 line) (record { failure = s .failure; adds = a })
-  unfolding Tells
-  tells-passed z n = (
-    z ∙ sym (passed-then st (readLine 16 line) (passes z) ∙ no-step st (st .symbols) line (readLine 16 line) (λ q. n (ap (λ (l : LineAt). formNumber (l .form)) seen-line ∙ q))),
-    λ _. state-after z,
-  )
-
-  judged-number : (j : Judged) → JudgesRead text (held .starts) (held .literals) (held .widths) (held .clauses) line (s .line) j → s .failure ≡ 0 → (p : Step) → readLine 16 line ≡ form (by p) →
-      judgedNumber j ≡ failure office st (readLine 16 line)
+  pub fails-step : (own : ℕ) (a b : HeldClause) → s .failure ≡ 0 → formNumber (s .line .form) ≡ 3 → own ≡ held .clauses → HeldOf held (s .line .a) a →
+      HeldOf held (s .line .b) b → (j : Judged) {n : ℕ} →
+      JudgesRead depth text own a b line (s .line) j → n ≡ judgedNumber j → n ≡ failure st (readLine depth line)
   unfolding JudgesRead ofStep stepFailure
-  judged-number j g z p q =
-      let k = sym (ap (readFailure st) q) ∙ passes z in
-      rw q (ap judgedNumber (g held st p (st .symbols) refl refl refl refl (seen-line ∙ ap (lineOf (st .symbols) line) q) R q k) ∙ sym (passed-then st (form (by p)) k))
-
-  pub tells-step : s .failure ≡ 0 → formNumber (s .line .form) ≡ 3 → (j : Judged) {n : ℕ} → JudgesRead text (held .starts) (held .literals) (held .widths) (held .clauses) line (s .line) j → n ≡ judgedNumber j →
-      Tells text held st (readLine 16 line) (record { failure = n; adds = a })
-  unfolding Tells
-  tells-step z b j {n} g q =
-      let (p, r) = a-step (st .symbols) line (readLine 16 line) (sym (ap (λ (l : LineAt). formNumber (l .form)) seen-line) ∙ b) in
-      (q ∙ judged-number j g z p r, λ _. state-after z)
+  fails-step own a b z k o ha hb j {n} g q =
+      let (p, r) = a-step (st .symbols) line (readLine depth line) (sym (ap (λ (l : LineAt). formNumber (l .form)) e) ∙ k) in
+      let k = sym (ap (readFailure st) r) ∙ passes z in
+      let m = g held st p (st .symbols) o ha hb (e ∙ ap (lineOf (st .symbols) line) r) R r k in
+      q ∙ ap judgedNumber m ∙ sym (passed-then st (form (by p)) k) ∙ ap (failure st) (sym r)
 
 -- The first line of the text from a place on.
 module _ (text : List ℕ) (at : ℕ) (h : at < length text) where
@@ -164,20 +143,34 @@ module _ (text : List ℕ) (at : ℕ) (h : at < length text) where
 first-raw : {x y : Raw} {xs ys : List Raw} → x ∷ xs ≡ y ∷ ys → x ≡ y
 first-raw e = cc
 
-module _ (text : List ℕ) (at : ℕ) (h : at < length text) (held : code.State) (c : Checked) where
-  -- "Bytes after the last line end form one more line, which isn't a form."
-  pub next-unended : endedAt text at ≡ false → c .failure ≡ 2 → Next text at held c
-  unfolding Next Tells readRaw failure
-  next-unended e f st raw raws R room q =
-      let r : raw ≡ unended (drop at text) = first-raw (sym q ∙ split-unended text at h e) in
-      rw r (f, λ z. absurd (omega arith))
+no-bytes : (depth : ℕ) → readLine depth [] ≡ noForm
+unfolding readLine readForm oneOf strip whole
+no-bytes depth = refl
 
-  pub next-ended : endedAt text at ≡ true → Ended text at (take (lineEndAt text at - at) (drop at text)) held c → Next text at held c
-  unfolding Next Ended readRaw
-  next-ended e E st raw raws R room q =
-      let bs = take (lineEndAt text at - at) (drop at text) in
-      let r : raw ≡ ended bs = first-raw (sym q ∙ split-ended text at h e) in
-      rw r (E st (drop (lineEndAt text at - at) (drop at text)) R room (omega arith) (sym (take-append-drop (lineEndAt text at - at) (drop at text))))
+-- "Bytes after the last line end form one more line, which isn't a form": no more than none are.
+module _ (depth : ℕ) (text : List ℕ) (at : ℕ) (h : at < length text) where
+  pub bytes-ended : endedAt text at ≡ true → lineBytes text at ≡ take (lineEndAt text at - at) (drop at text)
+  unfolding lineBytes
+  bytes-ended e = rw e
+
+  pub bytes-unended : endedAt text at ≡ false → lineBytes text at ≡ []
+  unfolding lineBytes
+  bytes-unended e = rw e
+
+  raw-read : (raw : Raw) (raws : List Raw) → split (drop at text) ≡ raw ∷ raws → readRaw depth raw ≡ readLine depth (lineBytes text at)
+  unfolding readRaw
+  raw-read raw raws q = go (endedAt text at) refl
+    where
+      go : (b : Bool) → endedAt text at ≡ b → readRaw depth raw ≡ readLine depth (lineBytes text at)
+      go true e = rw (first-raw (sym q ∙ split-ended text at h e), bytes-ended e)
+      go false e = rw (first-raw (sym q ∙ split-unended text at h e), bytes-unended e, no-bytes depth)
+
+  some-line : (raw : Raw) × (raws : List Raw) × (split (drop at text) ≡ raw ∷ raws)
+  some-line = go (endedAt text at) refl
+    where
+      go : (b : Bool) → endedAt text at ≡ b → (raw : Raw) × (raws : List Raw) × (split (drop at text) ≡ raw ∷ raws)
+      go true e = (_, _, split-ended text at h e)
+      go false e = (_, _, split-unended text at h e)
 
 -- A line is at most one clause more.
 clauses-after : (st : State) (r : Reading) → length (clauses (after st r)) ≤ length (clauses st) + 1
@@ -198,112 +191,165 @@ clauses-after st (form (by s)) =
 
 -- A place between two lines that is reached: what is held represents a state, there is room for a clause of each line left, and reading
 -- on from that state is reading the text.
-pub record Reached (text : List ℕ) (at line : ℕ) (held : code.State) : Type 0 where
+pub record Reached (F : Figures) (text : List ℕ) (at line : ℕ) (held : code.HeldState) : Type 0 where
   pub st : State
-  pub holds : Represents text held st
-  pub room : held .clauses + length (split (drop at text)) ≤ 1_024
-  pub onward : readOn office fresh 1 (readings office text) ≡ readOn office st line (readings office (drop at text))
+  pub holds : Represents (F .depth) text held st
+  pub room : held .clauses + length (split (drop at text)) ≤ office .lines
+  pub onward : readOn fresh 1 (readings F text) ≡ readOn st line (readings F (drop at text))
 
 neither : (a b : Bool) → a || b ≡ false → (a ≡ false) × (b ≡ false)
 neither true b e = absurd (true≢false e)
 neither false b e = (refl, e)
 
-module _ (text : List ℕ) (e : tooLarge office text ≡ false) where
-  pub text-small : length text ≤ 65_535
-  unfolding tooLarge office
-  text-small = ltb-false 65_535 (length text) (neither (ltb 65_535 (length text)) (ltb 1_024 (length (split text))) e .0)
+module _ (F : Figures) (text : List ℕ) (u : UpToOffice F) (e : tooLarge F text ≡ false) where
+  pub text-small : length text ≤ office .bytes
+  unfolding tooLarge
+  text-small =
+      let n = ltb-false (F .bytes) (length text) (neither (ltb (F .bytes) (length text)) (ltb (F .lines) (length (split text))) e .0) in
+      omega (arith, u .bytes)
 
-  lines-few : length (split text) ≤ 1_024
-  unfolding tooLarge office
-  lines-few = ltb-false 1_024 (length (split text)) (neither (ltb 65_535 (length text)) (ltb 1_024 (length (split text))) e .1)
+  lines-few : length (split text) ≤ office .lines
+  unfolding tooLarge
+  lines-few =
+      let n = ltb-false (F .lines) (length (split text)) (neither (ltb (F .bytes) (length text)) (ltb (F .lines) (length (split text))) e .1) in
+      omega (arith, u .lines)
 
-  pub reached-first : Reached text 0 1 freshState
-  unfolding freshState
-  reached-first = record { st = fresh; holds = fresh-represents text; room = omega (arith, lines-few); onward = refl }
+  pub reached-first : (held : code.HeldState) → Begins held → Reached F text 0 1 held
+  unfolding Begins fresh clauses
+  reached-first held b =
+      let R = b (F .depth) text in
+      record { st = fresh; holds = R; room = omega (arith, lines-few, R .count); onward = refl }
 
-module _ {text : List ℕ} {at line : ℕ} {held : code.State} (P : Reached text at line held) (h : at < length text) (small : length text ≤ 65_535) (c : Checked) (N : Next text at held c) where
-  some-line : (raw : Raw) × (raws : List Raw) × (split (drop at text) ≡ raw ∷ raws)
-  some-line = go (endedAt text at) refl
-    where
-      go : (b : Bool) → endedAt text at ≡ b → (raw : Raw) × (raws : List Raw) × (split (drop at text) ≡ raw ∷ raws)
-      go true e = (_, _, split-ended text at h e)
-      go false e = (_, _, split-unended text at h e)
+module _ {F : Figures} {text : List ℕ} {at line : ℕ} {held : code.HeldState} (P : Reached F text at line held) (h : at < length text) (small : length text ≤ office .bytes)
+    {n : ℕ} (N : n ≡ failure (P .st) (readLine (F .depth) (lineBytes text at))) where
+  raw-failure : (raw : Raw) (raws : List Raw) → split (drop at text) ≡ raw ∷ raws → n ≡ failure (P .st) (readRaw (F .depth) raw)
+  raw-failure raw raws q = N ∙ ap (failure (P .st)) (sym (raw-read (F .depth) text at h raw raws q))
 
-  tells : (raw : Raw) (raws : List Raw) → split (drop at text) ≡ raw ∷ raws → Tells text held (P .st) (readRaw 16 raw) c
-  unfolding Next Room
-  tells raw raws q = N (P .st) raw raws (P .holds) (omega (arith, P .room, ap length q), small) q
+  refused : (raw : Raw) (raws : List Raw) → split (drop at text) ≡ raw ∷ raws → (n ≡ 0 → ⊥) → readOn (P .st) line (readings F (drop at text)) ≡ Refused n line
+  unfolding readings readOn
+  refused raw raws q z = rw (q, ← raw-failure raw raws q, ne-eqb n 0 z)
 
-  tells-failure : (raw : Raw) (raws : List Raw) → split (drop at text) ≡ raw ∷ raws → c .failure ≡ failure office (P .st) (readRaw 16 raw)
-  unfolding Tells
-  tells-failure raw raws q = tells raw raws q .0
+  pub line-refused : (n ≡ 0 → ⊥) → Refused n line ≡ readOn fresh 1 (readings F text)
+  line-refused z = let (raw, raws, q) = some-line (F .depth) text at h in sym (P .onward ∙ refused raw raws q z)
 
-  refused : (raw : Raw) (raws : List Raw) → split (drop at text) ≡ raw ∷ raws → (c .failure ≡ 0 → ⊥) → readOn office (P .st) line (readings office (drop at text)) ≡ Refused (c .failure) line
-  unfolding readings readOn office
-  refused raw raws q n = rw (q, ← tells-failure raw raws q, ne-eqb (c .failure) 0 n)
-
-  pub line-refused : (c .failure ≡ 0 → ⊥) → Refused (c .failure) line ≡ readOn office fresh 1 (readings office text)
-  line-refused n = let (raw, raws, q) = some-line in sym (P .onward ∙ refused raw raws q n)
-
-  line-is-ended : c .failure ≡ 0 → endedAt text at ≡ true
-  unfolding failure readRaw
+  line-is-ended : n ≡ 0 → endedAt text at ≡ true
+  unfolding failure
   line-is-ended z = go (endedAt text at) refl
     where
       go : (b : Bool) → endedAt text at ≡ b → endedAt text at ≡ true
       go true e = e
-      go false e = absurd (omega (arith, z, tells-failure (unended (drop at text)) [] (split-unended text at h e)))
+      go false e = absurd (omega (arith, z, N ∙ ap (failure (P .st)) (ap (readLine (F .depth)) (bytes-unended (F .depth) text at h e) ∙ no-bytes (F .depth))))
 
-  went-on : (raw : Raw) (raws : List Raw) → split (drop at text) ≡ raw ∷ raws → c .failure ≡ 0 →
-      readOn office (P .st) line (readings office (drop at text)) ≡ readOn office (after (P .st) (readRaw 16 raw)) (suc line) (map (readRaw 16) raws)
-  unfolding readings readOn office
-  went-on raw raws q z = rw (q, ← tells-failure raw raws q, eq-eqb (c .failure) 0 z)
-
-  pub line-passed-end : c .failure ≡ 0 → (at ≤ lineEndAt text at) × (lineEndAt text at < length text)
+  pub line-passed-end : n ≡ 0 → (at ≤ lineEndAt text at) × (lineEndAt text at < length text)
   line-passed-end z = line-end-within text at h (line-is-ended z)
 
-  reached-after : c .failure ≡ 0 → Reached text (lineEndAt text at + 1) (line + 1) (withAdded held (c .adds))
-  unfolding Tells readings office
-  reached-after z =
-      let raw = ended (take (lineEndAt text at - at) (drop at text)) in
-      let raws = split (drop (lineEndAt text at + 1) text) in
-      let q : split (drop at text) ≡ raw ∷ raws = split-ended text at h (line-is-ended z) in
-      let R : Represents text (withAdded held (c .adds)) (after (P .st) (readRaw 16 raw)) = tells raw raws q .1 z in
+  pub clause-room : held .clauses < office .lines
+  clause-room = let (raw, raws, q) = some-line (F .depth) text at h in omega (arith, P .room, ap length q)
+
+  pub line-stands : n ≡ 0 → LineStands text at (lineBytes text at) held
+  line-stands z =
+      let k = lineEndAt text at - at in
       record {
-        st = after (P .st) (readRaw 16 raw);
-        holds = R;
-        room = omega (arith, R .count, P .holds .count, P .room, ap length q, clauses-after (P .st) (readRaw 16 raw));
-        onward = P .onward ∙ went-on raw raws q z ∙ rw (add-one line);
+        small = small;
+        rest = drop k (drop at text);
+        begins = omega arith;
+        stands = rw (bytes-ended (F .depth) text at h (line-is-ended z)) (sym (take-append-drop k (drop at text)));
+        room = clause-room;
       }
 
-  clause-room : held .clauses < 1_024
-  clause-room = let (raw, raws, q) = some-line in omega (arith, P .room, ap length q)
+  went-on : (raw : Raw) (raws : List Raw) → split (drop at text) ≡ raw ∷ raws → n ≡ 0 →
+      readOn (P .st) line (readings F (drop at text)) ≡ readOn (after (P .st) (readRaw (F .depth) raw)) (suc line) (map (readRaw (F .depth)) raws)
+  unfolding readings readOn
+  went-on raw raws q z = rw (q, ← raw-failure raw raws q, eq-eqb n 0 z)
 
-  -- There is room for what the line adds.
-  symbol-reached : c .failure ≡ 0 → c .adds .symbol ≡ true → Reached text (lineEndAt text at + 1) (line + 1) (withSymbol held (c .adds .k))
-  unfolding withAdded
-  symbol-reached z b = rw b at (reached-after z)
+  module _ (a : Added) (z : n ≡ 0) (A : Represents (F .depth) text (withAdded held a) (after (P .st) (readLine (F .depth) (lineBytes text at)))) where
+    reached-after : Reached F text (lineEndAt text at + 1) (line + 1) (withAdded held a)
+    unfolding readings
+    reached-after =
+        let raw = ended (take (lineEndAt text at - at) (drop at text)) in
+        let raws = split (drop (lineEndAt text at + 1) text) in
+        let q : split (drop at text) ≡ raw ∷ raws = split-ended text at h (line-is-ended z) in
+        let R : Represents (F .depth) text (withAdded held a) (after (P .st) (readRaw (F .depth) raw)) = rw (raw-read (F .depth) text at h raw raws q) A in
+        record {
+          st = after (P .st) (readRaw (F .depth) raw);
+          holds = R;
+          room = omega (arith, R .count, P .holds .count, P .room, ap length q, clauses-after (P .st) (readRaw (F .depth) raw));
+          onward = P .onward ∙ went-on raw raws q z ∙ rw (add-one line);
+        }
 
-  symbol-room : c .failure ≡ 0 → c .adds .symbol ≡ true → held .symbols < 256
-  symbol-room z b =
-      let R = symbol-reached z b .holds in
-      omega (arith, symbols-within R, R .room .0)
+    pub symbol-reached : a .symbol ≡ true → Reached F text (lineEndAt text at + 1) (line + 1) (withSymbol held (a .k))
+    unfolding withAdded
+    symbol-reached b = rw b at reached-after
 
-  room-there : c .failure ≡ 0 → hasRoom held (c .adds) ≡ true
-  unfolding hasRoom
-  room-there z = go (c .adds .symbol) refl
-    where
-      go : (b : Bool) → c .adds .symbol ≡ b → cond b (ltb (held .symbols) 256) (ltb (held .clauses) 1_024) ≡ true
-      go true e = lt-ltb (held .symbols) 256 (symbol-room z e)
-      go false e = lt-ltb (held .clauses) 1_024 clause-room
+    pub clause-reached : a .symbol ≡ false → Reached F text (lineEndAt text at + 1) (line + 1) (withClause held (a .start) (a .literals) (a .width) (a .inputs))
+    unfolding withAdded
+    clause-reached b = rw b at reached-after
 
-  pub reached-next : {p : ℕ} {next : code.State} → c .failure ≡ 0 → p ≡ lineEndAt text at + 1 → next ≡ addedTo held (c .adds) → Reached text p (line + 1) next
-  unfolding addedTo
-  reached-next z q e = rw (q, e, room-there z) (reached-after z)
+    pub symbol-room : a .symbol ≡ true → held .symbols < maxSymbols
+    symbol-room b =
+        let R = symbol-reached b .holds in
+        omega (arith, symbols-within R, R .counts-room)
 
-module _ {text : List ℕ} {at line : ℕ} {held : code.State} (P : Reached text at line held) where
-  pub held-within : (held .symbols ≤ length (held .counts)) × (held .clauses ≤ 1_024)
-  held-within = (symbols-within (P .holds), omega (arith, P .room))
+-- A line that passes checks 2 to 11 passes 2 to 6.
+read-passes : (st : State) (r : Reading) → failure st r ≡ 0 → readFailure st r ≡ 0
+read-passes st r z = go (ℕ-discrete (readFailure st r) 0)
+  where
+    go : Dec (readFailure st r ≡ 0) → readFailure st r ≡ 0
+    go (yes e) = e
+    go (no n) = sym (failed-then st r n) ∙ z
+
+-- The line from a place that is reached on, as the code sees it, with what it holds of the clauses that the line names.
+module _ {F : Figures} {text : List ℕ} {at line : ℕ} {held : code.HeldState} (P : Reached F text at line held) {bytes : List ℕ}
+    (e : bytes ≡ lineBytes text at) (s : Seen) (S : Sees (F .depth) (held .counts) (held .symbols) (held .clauses) (held .inputs) bytes s) where
+  read : (s .failure ≡ readFailure (P .st) (readLine (F .depth) bytes)) × (s .line ≡ lineOf (P .st .symbols) bytes (readLine (F .depth) bytes))
+  unfolding Sees
+  read = S text held (P .st) (P .holds) refl refl refl refl
+
+  pub line-number : (a b : HeldClause) → HeldOf held (s .line .a) a → HeldOf held (s .line .b) b → (n : ℕ) → FirstFailing (F .depth) text (held .clauses) a b bytes s n →
+      n ≡ failure (P .st) (readLine (F .depth) (lineBytes text at))
+  unfolding FirstFailing
+  line-number a b ha hb n f =
+      rw (← e) (f held (P .st) (P .holds) refl ha hb (read .0) (read .1))
+
+  pub line-added : {n : ℕ} → n ≡ failure (P .st) (readLine (F .depth) (lineBytes text at)) → n ≡ 0 → LineStands text at (lineBytes text at) held → (a : Added) →
+      Adds at (held .inputs) (s .line) a → Represents (F .depth) text (withAdded held a) (after (P .st) (readLine (F .depth) (lineBytes text at)))
+  unfolding Adds
+  line-added N z L a A =
+      A (F .depth) text (lineBytes text at) held (P .st) (P .holds) L refl (rw e at (read .1)) (read-passes (P .st) _ (sym N ∙ z))
+
+-- What is held of clause n, at its slot.
+pub slot-below : (n : ℕ) {k : ℕ} → k ≡ slotOf n → k < office .lines
+unfolding slotOf
+slot-below n {k} e = go (ltb n (office .lines)) refl
+  where
+    go : (b : Bool) → ltb n (office .lines) ≡ b → k < office .lines
+    go true t = let q : k ≡ n = e ∙ rw t in omega (arith, ltb-true n (office .lines) t)
+    go false t = let q : k ≡ 0 = e ∙ rw t in omega arith
+
+pub held-of : (held : code.HeldState) (n : ℕ) {k : ℕ} {a : HeldClause} → held .clauses ≤ office .lines → k ≡ slotOf n →
+    a ≡ record { start = getD (held .starts) k 0; literals = getD (held .literals) k 0; width = getD (held .widths) k 0 } → HeldOf held n a
+unfolding HeldOf slotOf
+held-of held n {k} l e f h =
+    let q : k ≡ n = e ∙ rw (lt-ltb n (office .lines) (omega arith)) in
+    rw (f, q) (refl, refl, refl)
+
+pub reached-as : {F : Figures} {text : List ℕ} {p q line : ℕ} {held next : code.HeldState} → Reached F text p line held → q ≡ p → next ≡ held → Reached F text q line next
+reached-as P e f = rw (e, f) P
+
+-- What is known of a line once its number is: it begins at a place that is reached.
+pub record LineRead (F : Figures) (text : List ℕ) (at line : ℕ) (held : code.HeldState) (s : Seen) (n : ℕ) : Type 0 where
+  pub here : at < length text
+  pub small : length text ≤ office .bytes
+  pub reached : Reached F text at line held
+  pub number : n ≡ failure (reached .st) (readLine (F .depth) (lineBytes text at))
+  pub added : n ≡ 0 → (a : Added) → Adds at (held .inputs) (s .line) a →
+      Represents (F .depth) text (withAdded held a) (after (reached .st) (readLine (F .depth) (lineBytes text at)))
+
+module _ {F : Figures} {text : List ℕ} {at line : ℕ} {held : code.HeldState} (P : Reached F text at line held) where
+  pub held-within : held .clauses ≤ office .lines
+  held-within = omega (arith, P .room)
 
   -- All lines are read.
-  pub reached-end : length text ≤ at → (v : Verdict) → Finishes held v → v ≡ readOn office fresh 1 (readings office text)
+  pub reached-end : length text ≤ at → (v : Verdict) → Finishes held v → v ≡ readOn fresh 1 (readings F text)
   unfolding Finishes readings split readOn
-  reached-end h v f = f text (P .st) (P .holds) ∙ sym (P .onward ∙ rw (past text at h))
+  reached-end h v f = f (F .depth) text (P .st) (P .holds) ∙ sym (P .onward ∙ rw (past text at h))

@@ -5,40 +5,41 @@ use mathlib.Core.Bool.{true}
 use mathlib.Core.Logic.{inl}
 use mathlib.Core.Path.{_≡_, sym, subst₂}
 use lib.Dec.{T}
-use Rattle.logic.specs.declared.Link.the-variants.{Mem}
-use Rattle.logic.specs.Syntax.{Atom, app, nil, link, Clause}
+use Rattle.logic.specs.Syntax.{Atom, Clause}
 use Rattle.logic.specs.Terms.{count, termsOf}
 use Rattle.logic.specs.Each.{eachTerm, eachAtom, declares, never, allowed, groundTerm, groundAtom, atomOver}
 use Rattle.logic.specs.Fill.{fill, fillAtom, fillLiteral, fillClause}
-use Rattle.logic.specs.Structure.{Structure, Reading, plainly, SatisfiesLiteral, SomeLiteral, Satisfies, Grounds, Models, ModelsAll}
+use Rattle.logic.specs.Structure.{Structure, SatisfiesLiteral, SomeLiteral, Satisfies, Grounds, Models, ModelsAll}
 use Rattle.logic.proofs.Both.{both}
 use Rattle.logic.proofs.Every.{everything}
-use Rattle.text.specs.Figures.{Figures, office}
+use Rattle.text.specs.declared.Figures.{Figures}
+use Rattle.text.specs.Figures.{office}
 use Rattle.verdict.specs.declared.Verdict.the-variants.{Refuted}
 use Rattle.verdict.specs.Checks.{tableOf, inputsOf}
 use Rattle.verdict.specs.Answer.{verdict}
-use Rattle.verdict.specs.Corners.{refutedText, openText, refusedText}
-use Rattle.verdict.proofs.Corners.{modelled, computed}
-use Rattle.verdict.proofs.Guaranteed.{guaranteed}
+use Rattle.verdict.proofs.Examples.{refutedText, openText, refusedText, modelled}
+use Rattle.verdict.proofs.Corners.{computed}
+use Rattle.verdict.proofs.Meaning.{verdict-means}
+use Rattle.verdict.proofs.Guaranteed.{whole-claim}
 
-pub modelled-not-refuted : (F : Figures) (text : List ℕ) (R : Reading) (H : Atom → Type 0) → Structure (tableOf F text) H →
-    ModelsAll R (tableOf F text) H (inputsOf F text) → (count first : ℕ) → verdict F text ≡ Refuted count first → ⊥
-modelled-not-refuted F text R H S m count first e = guaranteed F text R H .refuted count first e (λ x. x) S m
+pub modelled-not-refuted : (F : Figures) (text : List ℕ) (H : Atom → Type 0) → Structure (tableOf F text) H →
+    ModelsAll (tableOf F text) H (inputsOf F text) → (count first : ℕ) → verdict F text ≡ Refuted count first → ⊥
+modelled-not-refuted F text H S m count first e = whole-claim F text (verdict F text) (verdict-means F text) .sound H .refuted count first e S m
 
--- refuted: no structure satisfies the inputs, however "satisfies" is read.
-pub refuted-example : (R : Reading) (H : Atom → Type 0) → Structure (tableOf office refutedText) H → ModelsAll R (tableOf office refutedText) H (inputsOf office refutedText) → ⊥
-refuted-example R H S m = modelled-not-refuted office refutedText R H S m 3 2 (computed .refuted-text)
+-- refuted: no structure satisfies the inputs.
+pub refuted-example : (H : Atom → Type 0) → Structure (tableOf office refutedText) H → ModelsAll (tableOf office refutedText) H (inputsOf office refutedText) → ⊥
+refuted-example H S m = modelled-not-refuted office refutedText H S m 3 2 (computed .refuted-text)
 
 -- The set of all ground atoms satisfies the inputs of the open and of the refused text.
 abbrev Ground : List ℕ → Atom → Type 0
 Ground table x = T (groundAtom table x)
 
-every-models : ModelsAll plainly (0 ∷ []) (Ground (0 ∷ [])) modelled
-unfolding ModelsAll Models Satisfies plainly SomeLiteral SatisfiesLiteral fillClause fillLiteral fillAtom fill groundAtom atomOver allowed eachAtom eachTerm termsOf Grounds groundTerm count declares
-every-models = (λ γ g. inl (both (eachTerm never (declares (0 ∷ [])) (γ 0)) true (g 0) tt), tt)
+every-models : ModelsAll (0 ∷ []) (Ground (0 ∷ [])) modelled
+unfolding ModelsAll Models Satisfies SomeLiteral SatisfiesLiteral fillClause fillLiteral fillAtom fill groundAtom atomOver allowed eachAtom eachTerm termsOf Grounds groundTerm count declares
+every-models = (λ γ g n. n (inl (both (eachTerm never (declares (0 ∷ [])) (γ 0)) true (g 0) tt)), tt)
 
 abbrev Modelled : List ℕ → List Clause → Type 0
-Modelled table inputs = Structure table (Ground table) × ModelsAll plainly table (Ground table) inputs
+Modelled table inputs = Structure table (Ground table) × ModelsAll table (Ground table) inputs
 
 pub open-example : Modelled (tableOf office openText) (inputsOf office openText)
 open-example = subst₂ Modelled (sym (computed .open-table)) (sym (computed .open-inputs)) (everything (0 ∷ []), every-models)

@@ -1,5 +1,6 @@
--- The verdict of document 01.
+-- The verdict (TEXT-FORM, V1 to V29).
 pub mod Checks
+pub mod Means
 pub mod Answer
 pub mod Guarantee
 pub mod Corners

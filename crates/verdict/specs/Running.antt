@@ -1,56 +1,54 @@
--- What the functions below `check` promise: what the state that the code holds (code.State) tells of each state of the definitions that it represents.
-use Prim.Native.Nat.{ℕ, _≤_, _<_}
-use mathlib.Core.List.{List, _∷_, _++_}
+-- What the functions below `check` promise: what the state that the code holds (code.HeldState) tells of each state of the definitions that
+-- it represents. Nothing here has to be believed: `check` promises the verdict of the definitions.
+use Prim.Native.Nat.{ℕ, _-_, _<_}
+use mathlib.Core.Bool.{cond}
+use mathlib.Core.List.{List, []}
 use mathlib.Core.Path.{_≡_}
-use lib.ListN.{length, drop}
-use Rattle.reader.specs.declared.states.State as code
+use lib.ListN.{getD, take, drop}
+use Rattle.reader.specs.declared.states.HeldState as code
+use Rattle.reader.specs.declared.states.Seen.{Seen}
 use Rattle.logic.specs.declared.Judged.{Judged}
 use Rattle.logic.specs.Syntax.{Step, by}
 use Rattle.logic.specs.Judge.{judge}
 use Rattle.lines.specs.declared.forms.LineAt.{LineAt}
 use Rattle.lines.specs.LineAt.{lineOf}
-use Rattle.text.specs.Read.{Reading, form, readLine}
-use Rattle.text.specs.Split.{Raw, split, readRaw}
-use Rattle.text.specs.Figures.{office}
-use Rattle.reader.specs.State.{State, clauses, after}
-use Rattle.reader.specs.ReadLine.{withAdded}
-use Rattle.reader.specs.Represents.{Represents, readFailure}
+use Rattle.text.specs.Form.{form}
+use Rattle.text.specs.Read.{readLine}
+use Rattle.text.specs.Size.{lineEndAt, endedAt}
+use Rattle.reader.specs.State.{State, clauses}
+use Rattle.reader.specs.Represents.{Represents}
+use Rattle.reader.specs.Failure.{readFailure}
 use Rattle.verdict.specs.declared.Verdict.{Verdict}
-use Rattle.verdict.specs.declared.Checked.{Checked}
+use Rattle.verdict.specs.declared.HeldClause.{HeldClause}
 use Rattle.verdict.specs.Answer.{failure, firstEmpty, finish}
 
--- The state that the code holds, by its parts.
-abbrev pub heldAs : List ℕ → ℕ → List ℕ → List ℕ → List ℕ → ℕ → ℕ → code.State
-heldAs counts symbols starts literals widths clauses inputs =
-    record { counts = counts; symbols = symbols; starts = starts; literals = literals; widths = widths; clauses = clauses; inputs = inputs }
+-- The bytes of the line that begins at a place, if it is ended; none, which are no form either, if it is not.
+unfoldable pub lineBytes : List ℕ → ℕ → List ℕ
+lineBytes text at = cond (endedAt text at) (take (lineEndAt text at - at) (drop at text)) []
 
--- The first failing check of 2 to 11 of a line, or 0, and then the state with what the line adds.
-unfoldable pub Tells : List ℕ → code.State → State → Reading → Checked → Type 0
-Tells text held st r c = (c .failure ≡ failure office st r) × (c .failure ≡ 0 → Represents text (withAdded held (c .adds)) (after st r))
+-- What is held of clause n, if there is one.
+unfoldable pub HeldOf : code.HeldState → ℕ → HeldClause → Type 0
+HeldOf held n p =
+    n < held .clauses →
+    (p .start ≡ getD (held .starts) n 0) × (p .literals ≡ getD (held .literals) n 0) × (p .width ≡ getD (held .widths) n 0)
 
--- There is room for one clause more, and the text is not too long.
-unfoldable pub Room : List ℕ → code.State → Type 0
-Room text held = (held .clauses < 1_024) × (length text ≤ 65_535)
+-- Of a step that passes checks 2 to 6, read by whichever table: the answer is that of the definitions.
+unfoldable pub JudgesRead : ℕ → List ℕ → ℕ → HeldClause → HeldClause → List ℕ → LineAt → Judged → Type 0
+JudgesRead depth text own a b line l r =
+    (held : code.HeldState) (st : State) (s : Step) (table : List ℕ) → own ≡ held .clauses → HeldOf held (l .a) a → HeldOf held (l .b) b →
+    l ≡ lineOf table line (form (by s)) → Represents depth text held st → readLine depth line ≡ form (by s) →
+    readFailure st (form (by s)) ≡ 0 → r ≡ judge (clauses st) s
 
--- Of a step, read by whichever table: the answer is that of the definitions.
-unfoldable pub JudgesRead : List ℕ → List ℕ → List ℕ → List ℕ → ℕ → List ℕ → LineAt → Judged → Type 0
-JudgesRead text starts literals widths own line l r =
-    (held : code.State) (st : State) (s : Step) (table : List ℕ) → starts ≡ held .starts → literals ≡ held .literals → widths ≡ held .widths → own ≡ held .clauses →
-    l ≡ lineOf table line (form (by s)) → Represents text held st → readLine 16 line ≡ form (by s) → readFailure st (form (by s)) ≡ 0 → r ≡ judge (clauses st) s
-
--- Of an ended line, whose bytes stand at a place of the text.
-unfoldable pub Ended : List ℕ → ℕ → List ℕ → code.State → Checked → Type 0
-Ended text at line held c =
-    (st : State) (rest : List ℕ) → Represents text held st → Room text held → at ≤ length text → drop at text ≡ line ++ rest → Tells text held st (readLine 16 line) c
-
--- Of the first line of the text from a place on.
-unfoldable pub Next : List ℕ → ℕ → code.State → Checked → Type 0
-Next text at held c =
-    (st : State) (raw : Raw) (raws : List Raw) → Represents text held st → Room text held → split (drop at text) ≡ raw ∷ raws → Tells text held st (readRaw 16 raw) c
+-- Of a line, with what checks 2 to 6 tell: the first failing check of 2 to 11, or 0.
+unfoldable pub FirstFailing : ℕ → List ℕ → ℕ → HeldClause → HeldClause → List ℕ → Seen → ℕ → Type 0
+FirstFailing depth text own a b line seen r =
+    (held : code.HeldState) (st : State) → Represents depth text held st → own ≡ held .clauses → HeldOf held (seen .line .a) a →
+    HeldOf held (seen .line .b) b → seen .failure ≡ readFailure st (readLine depth line) →
+    seen .line ≡ lineOf (st .symbols) line (readLine depth line) → r ≡ failure st (readLine depth line)
 
 -- Of the clauses, and of the end of the text.
-unfoldable pub FindsEmpty : code.State → ℕ → Type 0
-FindsEmpty held n = (text : List ℕ) (st : State) → Represents text held st → n ≡ firstEmpty (clauses st)
+unfoldable pub FindsEmpty : code.HeldState → ℕ → Type 0
+FindsEmpty held n = (depth : ℕ) (text : List ℕ) (st : State) → Represents depth text held st → n ≡ firstEmpty (clauses st)
 
-unfoldable pub Finishes : code.State → Verdict → Type 0
-Finishes held v = (text : List ℕ) (st : State) → Represents text held st → v ≡ finish st
+unfoldable pub Finishes : code.HeldState → Verdict → Type 0
+Finishes held v = (depth : ℕ) (text : List ℕ) (st : State) → Represents depth text held st → v ≡ finish st

@@ -4,35 +4,38 @@ use lines::forms::LineAt;
 use lines::forms::STEP;
 use lines::forms::form_number;
 use logic::Judged;
-use reader::clauses::clause;
-use reader::clauses::size;
-use reader::states::Added;
-use reader::states::State;
+use reader::states::HeldState;
+use reader::states::Seen;
 use reader::states::adds;
-use reader::states::after;
 use reader::states::fresh;
 use reader::states::has_constant;
 use reader::states::see;
+use reader::states::slot;
+use reader::states::table;
 use rules::steps::Size;
 use rules::steps::judge;
+use scan::texts::clause_part;
 use scan::texts::line_end;
 use scan::texts::too_large;
+use text::BYTES;
+use text::DEPTH;
+use text::Figures;
+use text::LINES;
 ghost use Prim.Native.Nat.{_≤_, _<_};
 ghost use mathlib.Core.Path.{_≡_};
 ghost use mathlib.Core.Bool.{false};
-ghost use lib.Dec.{T};
 ghost use lib.ListN.{length};
-ghost use Rattle.logic.specs.Judge.{judgedNumber};
-ghost use Rattle.logic.specs.Structure.{plainly, truncated, notNot};
-ghost use Rattle.text.specs.Figures.{office};
+ghost use Rattle.logic.specs.StepChecks.{judgedNumber};
+ghost use Rattle.text.specs.Figures.{office, UpToOffice};
 ghost use Rattle.text.specs.Size.{lineEndAt};
 ghost use Rattle.reader.specs.State.{fresh as freshly};
 ghost use Rattle.verdict.specs.Checks.{readings, tooLarge};
+ghost use Rattle.verdict.specs.Means.{Means};
 ghost use Rattle.verdict.specs.Answer.{readOn, verdict};
 ghost use Rattle.verdict.specs.Guarantee.{Guarantee};
-ghost use Rattle.verdict.specs.Running.{heldAs, JudgesRead, Ended, Next, FindsEmpty, Finishes};
+ghost use Rattle.verdict.specs.Running.{lineBytes, JudgesRead, FirstFailing, FindsEmpty, Finishes};
 
-// The answer to a text.
+// What is found of a text.
 pub enum Verdict {
     // Accepted: the number of clauses, and the number of the first empty one.
     Refuted { count: usize, first: usize },
@@ -42,17 +45,26 @@ pub enum Verdict {
     Refused { number: usize, line: usize },
 }
 
-// What a line tells: the number of its first failing check of 2 to 11, or 0, and what it adds to the state.
-struct Checked {
-    failure: usize,
-    adds: Added,
+// The answer to a text.
+pub struct Answer {
+    pub verdict: Verdict,
 }
 
-// How many symbols, clauses and in lines were read.
-struct Counted {
-    symbols: usize,
-    clauses: usize,
-    inputs: usize,
+// What the reading holds of a clause: its place, its number of literals and its width.
+struct HeldClause {
+    start: u16,
+    literals: u8,
+    width: u8,
+}
+
+fn held(start: u16, literals: u8, width: u8) -> HeldClause
+    ensures { λ r. ⌜ r ≡ record { start = start; literals = literals; width = width } ⌝ }
+{
+    HeldClause {
+        start,
+        literals,
+        width,
+    }
 }
 
 // The number of the check of 7 to 11 that fails, or 0.
@@ -69,108 +81,70 @@ fn number(j: Judged) -> usize
     }
 }
 
-// Checks 7 to 11 of the step on a line, by what the reading holds of each clause.
+// The bytes of the line from `at` to `end`; none, which are no form, where the text ends before the line does.
+fn ended(text: &[u8], at: usize, end: usize) -> &[u8]
+    requires { ⌜ (at < length (now text)) × (end ≡ lineEndAt (now text) at) ⌝ }
+    ensures { λ r. ⌜ now r ≡ lineBytes (now (text .entry)) at ⌝ }
+{
+    if end >= text.len() {
+        return &text[0..0];
+    }
+    &text[at..end]
+}
+
+// Checks 7 to 11 of a step, by what the reading holds of its parents.
 fn judged(
+    depth: u8,
     text: &[u8],
-    starts: &[u16],
-    literals: &[u8],
-    widths: &[u8],
-    clauses: usize,
+    own: usize,
+    a: HeldClause,
+    b: HeldClause,
     line: &[u8],
     l: LineAt,
 ) -> Judged
-    ensures { λ r. ⌜ JudgesRead (now (text .entry)) (now (starts .entry)) (now (literals .entry)) (now (widths .entry)) clauses (now (line .entry)) l r ⌝ }
+    ensures { λ r. ⌜ JudgesRead depth (now (text .entry)) own a b (now (line .entry)) l r ⌝ }
 {
-    let a = clause(text, starts, l.a);
-    let b = clause(text, starts, l.b);
     let of_a = Size {
-        literals: size(literals, l.a),
-        width: size(widths, l.a),
+        literals: a.literals as usize,
+        width: a.width as usize,
     };
     let of_b = Size {
-        literals: size(literals, l.b),
-        width: size(widths, l.b),
+        literals: b.literals as usize,
+        width: b.width as usize,
     };
-    judge(clauses, a, of_a, b, of_b, line, l)
+    let p = clause_part(text, a.start as usize);
+    let q = clause_part(text, b.start as usize);
+    judge(depth, own, p, of_a, q, of_b, line, l)
 }
 
-// An ended line, without its line end, which begins at the place `at` of the text: a step is judged by the clauses before it.
-fn ended(
+// The first failing check of 2 to 11 of a line, or 0: a step is judged by the clauses before it.
+fn failing(
+    depth: u8,
     text: &[u8],
-    at: usize,
+    own: usize,
+    a: HeldClause,
+    b: HeldClause,
     line: &[u8],
-    counts: &[u8],
-    starts: &[u16],
-    literals: &[u8],
-    widths: &[u8],
-    n: Counted,
-) -> Checked
-    requires { ⌜ n .symbols ≤ length (now counts) ⌝ }
-    ensures { λ r. ⌜ Ended (now (text .entry)) at (now (line .entry)) (heldAs (now (counts .entry)) (n .symbols) (now (starts .entry)) (now (literals .entry)) (now (widths .entry)) (n .clauses) (n .inputs)) r ⌝ }
+    seen: Seen,
+) -> usize
+    ensures { λ r. ⌜ FirstFailing depth (now (text .entry)) own a b (now (line .entry)) seen r ⌝ }
 {
-    let symbols = n.symbols;
-    let clauses = n.clauses;
-    let inputs = n.inputs;
-    let seen = see(&counts[..symbols], symbols, clauses, inputs, line);
     let failure = seen.failure;
-    let l = seen.line;
-    let a = adds(at, l);
     if failure != 0 {
-        return Checked { failure, adds: a };
+        return failure;
     }
+    let l = seen.line;
     let f = l.form;
     let form = form_number(f);
     if form != STEP {
-        return Checked { failure, adds: a };
+        return 0;
     }
-    let answer = judged(text, starts, literals, widths, clauses, line, l);
-    let failure = number(answer);
-    Checked { failure, adds: a }
-}
-
-// The line from `at` on: bytes after the last line end are no form.
-fn next(
-    text: &[u8],
-    at: usize,
-    end: usize,
-    counts: &[u8],
-    starts: &[u16],
-    literals: &[u8],
-    widths: &[u8],
-    n: Counted,
-) -> Checked
-    requires { ⌜ (at < length (now text)) × (end ≡ lineEndAt (now text) at) × (n .symbols ≤ length (now counts)) ⌝ }
-    ensures { λ r. ⌜ Next (now (text .entry)) at (heldAs (now (counts .entry)) (n .symbols) (now (starts .entry)) (now (literals .entry)) (now (widths .entry)) (n .clauses) (n .inputs)) r ⌝ }
-{
-    if end >= text.len() {
-        let a = Added {
-            symbol: false,
-            input: false,
-            k: 0,
-            start: 0,
-            literals: 0,
-            width: 0,
-        };
-        return Checked {
-            failure: 2,
-            adds: a,
-        };
-    }
-    ended(
-        text,
-        at,
-        &text[at..end],
-        counts,
-        starts,
-        literals,
-        widths,
-        n,
-    )
+    number(judged(depth, text, own, a, b, line, l))
 }
 
 // The number of the first empty clause, or of all clauses where none is empty.
-fn first_empty(state: State) -> usize
-    requires { ⌜ state .clauses ≤ 1024 ⌝ }
+fn first_empty(state: HeldState) -> usize
+    requires { ⌜ state .clauses ≤ office .lines ⌝ }
     ensures { λ r. ⌜ FindsEmpty state r ⌝ }
 {
     let literals = state.literals;
@@ -186,13 +160,11 @@ fn first_empty(state: State) -> usize
 }
 
 // All lines have passed.
-fn finish(state: State) -> Verdict
-    requires { ⌜ (state .symbols ≤ length (state .counts)) × (state .clauses ≤ 1024) ⌝ }
+fn finish(state: HeldState) -> Verdict
+    requires { ⌜ state .clauses ≤ office .lines ⌝ }
     ensures { λ r. ⌜ Finishes state r ⌝ }
 {
-    let counts = state.counts;
-    let symbols = state.symbols;
-    if !has_constant(&counts[..symbols]) {
+    if !has_constant(table(&state.counts, state.symbols)) {
         return Verdict::Refused { number: 4, line: 0 };
     }
     let count = state.clauses;
@@ -203,34 +175,41 @@ fn finish(state: State) -> Verdict
     Verdict::Open { count }
 }
 
-// The lines one after the other, up to the first that fails.
-fn read_on(text: &[u8]) -> Verdict
-    requires { ⌜ tooLarge office (now text) ≡ false ⌝ }
-    ensures { λ r. ⌜ r ≡ readOn office freshly 1 (readings office (now (text .entry))) ⌝ }
+// The lines one after the other, up to the first that fails. The state is written in place: a line moves none of it.
+fn read_on(text: &[u8], figures: Figures) -> Verdict
+    requires { ⌜ (tooLarge figures (now text) ≡ false) × UpToOffice figures ⌝ }
+    ensures { λ r. ⌜ r ≡ readOn freshly 1 (readings figures (now (text .entry))) ⌝ }
 {
     let mut state = fresh();
     let mut at = 0;
     let mut line = 1;
     while at < text.len() {
         let end = line_end(text, at);
-        let counts = state.counts;
-        let starts = state.starts;
-        let literals = state.literals;
-        let widths = state.widths;
-        let n = Counted {
-            symbols: state.symbols,
-            clauses: state.clauses,
-            inputs: state.inputs,
-        };
-        let checked = next(text, at, end, &counts, &starts, &literals, &widths, n);
-        let failure = checked.failure;
-        if failure != 0 {
-            return Verdict::Refused {
-                number: failure,
-                line,
-            };
+        let bytes = ended(text, at, end);
+        let symbols = state.symbols;
+        let clauses = state.clauses;
+        let inputs = state.inputs;
+        let seen = see(figures, &state.counts, symbols, clauses, inputs, bytes);
+        let l = seen.line;
+        let n = slot(l.a);
+        let a = held(state.starts[n], state.literals[n], state.widths[n]);
+        let m = slot(l.b);
+        let b = held(state.starts[m], state.literals[m], state.widths[m]);
+        let number = failing(figures.depth, text, clauses, a, b, bytes, seen);
+        if number != 0 {
+            return Verdict::Refused { number, line };
         }
-        state = after(state, checked.adds);
+        let added = adds(at, inputs, l);
+        if added.symbol {
+            state.counts[symbols] = added.k;
+            state.symbols = symbols + 1;
+        } else {
+            state.starts[clauses] = added.start;
+            state.literals[clauses] = added.literals;
+            state.widths[clauses] = added.width;
+            state.clauses = clauses + 1;
+            state.inputs = added.inputs;
+        }
         at = end + 1;
         line += 1;
     }
@@ -238,14 +217,21 @@ fn read_on(text: &[u8]) -> Verdict
 }
 
 // The verdict of a text, and what it means.
-pub fn check(text: &[u8]) -> Verdict
-    ensures { λ r. ⌜ r ≡ verdict office (now (text .entry)) ⌝ }
-    ensures { λ r. ⌜ Guarantee plainly T office (now (text .entry)) r ⌝ }
-    ensures { λ r. ⌜ Guarantee truncated T office (now (text .entry)) r ⌝ }
-    ensures { λ r. ⌜ Guarantee notNot T office (now (text .entry)) r ⌝ }
+pub fn check(text: &[u8]) -> Answer
+    ensures { λ r. ⌜ r .verdict ≡ verdict office (now (text .entry)) ⌝ }
+    ensures { λ r. ⌜ Means office (now (text .entry)) (r .verdict) ⌝ }
+    ensures { λ r. ⌜ Guarantee office (now (text .entry)) (r .verdict) ⌝ }
+    ensures { λ _. ⌜ now (text .exit) ≡ now (text .entry) ⌝ }
 {
-    if too_large(text) {
-        return Verdict::Refused { number: 1, line: 0 };
+    let figures = Figures {
+        bytes: BYTES,
+        lines: LINES,
+        depth: DEPTH,
+    };
+    if too_large(text, figures) {
+        let verdict = Verdict::Refused { number: 1, line: 0 };
+        return Answer { verdict };
     }
-    read_on(text)
+    let verdict = read_on(text, figures);
+    Answer { verdict }
 }

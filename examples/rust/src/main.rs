@@ -1,13 +1,31 @@
 //! Prints the verdict on the text on standard input, through the static library.
+//! The exit status is 0 where the text is accepted, 1 where it is refused, and 2
+//! where standard input can't be read or the verdict can't be written.
 
-use std::io::{self, Read};
+use std::io::{self, Read, Write};
+use std::process::ExitCode;
+
+use fcheck::Verdict;
 
 /// One byte more than a text may have: a longer text is refused by its length.
 const ENOUGH: u64 = 65_536;
 
-fn main() -> io::Result<()> {
+fn main() -> ExitCode {
+    match check() {
+        Ok(Verdict::Refused { .. }) => ExitCode::from(1),
+        Ok(_) => ExitCode::SUCCESS,
+        Err(error) => {
+            eprintln!("check: {error}");
+            ExitCode::from(2)
+        }
+    }
+}
+
+/// Reads the text and prints its verdict.
+fn check() -> io::Result<Verdict> {
     let mut text = Vec::new();
     io::stdin().lock().take(ENOUGH).read_to_end(&mut text)?;
-    println!("{}", fcheck::check(&text));
-    Ok(())
+    let verdict = fcheck::check(&text);
+    writeln!(io::stdout(), "{verdict}")?;
+    Ok(verdict)
 }

@@ -5,27 +5,28 @@ use std::collections::{BTreeMap, BTreeSet};
 use std::io;
 use std::path::Path;
 
-use second::generate::generate;
 use second::generate::limits::{limit_text, KINDS};
 use second::generate::model::RULES;
 use second::generate::random::Random;
+use second::generate::{sample, Sample};
 use second::{check, MAX_BYTES, MAX_LINES};
 
 use crate::coverage::{can_fail, classify, rules_of, Class, Coverage};
 use crate::examples::read_examples;
-use crate::second_line;
+use crate::made::made;
+use crate::{second_line, shown};
 
 /// No text of the corpus is longer: one byte above the limit shows that a text
 /// is too long.
 pub const LONGEST: usize = MAX_BYTES + 1;
 
 /// The seeds that are looked at for generated texts.
-const SEEDS: std::ops::Range<u64> = 0..60_000;
+const SEEDS: std::ops::Range<u64> = 0..40_000;
 /// Generated texts are at most so long, but for the long ones.
-const SMALL: usize = 900;
+const SMALL: usize = 600;
 /// The long ones lie between, and there are so many of them.
 const LONG: std::ops::RangeInclusive<usize> = 8_000..=40_000;
-const LONG_TEXTS: u64 = 10;
+const LONG_TEXTS: u64 = 8;
 /// How many accepted texts are wanted for each rule, of each verdict.
 const ACCEPTED_EACH: u64 = 30;
 /// How many texts are wanted that a number refuses at a step by a rule.
@@ -37,29 +38,34 @@ const OTHER_EACH: u64 = 40;
 const LIMIT_SEEDS: u64 = 20;
 const LIMIT_BYTES: usize = 30_000;
 const LIMIT_BYTES_NEW: usize = 140_000;
-/// The limits, in the generator's order.
-const LIMITS: [&str; KINDS] = [
-    "256 symbols",
-    "K of a sym line 8",
-    "K of a sym line a number",
-    "variable 31 in an input",
-    "variable 31 in a list",
-    "depth 16 in an input",
-    "depth 16 in a list",
-    "8 method arguments",
-    "32 literals in an input",
-    "32 literals in a claim",
-    "32 terms in a list",
-    "1,024 lines",
-    "65,535 bytes",
-    "65,535 as a step's number",
-    "the clause before the step",
-    "the last occurrence",
-    "the last argument",
-    "filled terms deeper than 16",
-    "8 parts of a term",
-    "symbol 255",
-    "the last line's end",
+/// The limits, in the generator's order, with the kinds of verdicts that are
+/// wanted of texts at the limit and of texts one past it.
+const LIMITS: [(&str, &str, &str); KINDS] = [
+    ("256 symbols", "open", "refused 5"),
+    ("K of a sym line 8", "open", "refused 5"),
+    ("K of a sym line a number", "refused 5", "refused 2"),
+    ("variable 31 in an input", "open", "refused 5"),
+    ("variable 31 in a list", "open", "refused 5"),
+    ("depth 16 in an input", "open", "refused 2"),
+    ("depth 16 in a list", "open", "refused 2"),
+    ("8 method arguments", "open", "refused 5"),
+    ("32 literals in an input", "open", "refused 5"),
+    ("32 literals in a claim", "open", "refused 5"),
+    ("32 terms in a list", "open", "refused 5"),
+    ("1,024 lines", "open, refused 2", "refused 1"),
+    ("65,535 bytes", "open", "refused 1"),
+    (
+        "65,535 as a step's number",
+        "refused 7, refused 8, refused 9",
+        "refused 2",
+    ),
+    ("the clause before the step", "refuted", "refused 7"),
+    ("the last occurrence", "open", "refused 9"),
+    ("the last argument", "open", "refused 9"),
+    ("filled terms deeper than 16", "refuted", "refused 10"),
+    ("8 parts of a term", "open", "refused 6"),
+    ("symbol 255", "open", "refused 6"),
+    ("the last line's end", "open", "refused 2"),
 ];
 /// Numbers around 65,535, with leading zeros, and past every machine word.
 const NUMBERS: [&str; 16] = [
@@ -87,8 +93,10 @@ pub struct Corpus {
     texts: Vec<Vec<u8>>,
     known: BTreeSet<Vec<u8>>,
     pub coverage: Coverage,
-    /// How often each verdict came for a limit, at it and one past it.
+    /// How often each kind of verdict came for a limit, at it and one past it.
     limits: BTreeMap<(usize, bool), BTreeMap<String, u64>>,
+    /// The texts that don't get the verdict that they are made for.
+    wrong: Vec<String>,
 }
 
 impl Corpus {
@@ -96,13 +104,16 @@ impl Corpus {
     pub fn make(examples: &Path) -> io::Result<Self> {
         let mut corpus = Corpus::default();
         for example in read_examples(examples)? {
-            corpus.add(example.text);
+            corpus.add_made(example.text, &shown(&example.expected));
         }
         corpus.add_bytes();
         corpus.add_limits();
         corpus.add_sizes();
         corpus.add_numbers();
         corpus.add_places();
+        for text in made() {
+            corpus.add_made(text.text, &text.expected);
+        }
         corpus.add_generated();
         Ok(corpus)
     }
@@ -120,6 +131,17 @@ impl Corpus {
             self.texts.push(text);
         }
         new
+    }
+
+    /// Adds a text that is made for a verdict, and tells whether it did.
+    fn add_made(&mut self, text: Vec<u8>, expected: &str) -> bool {
+        let verdict = check(&text).to_string();
+        if verdict != expected {
+            let text = String::from_utf8_lossy(&text);
+            let wrong = format!("made for {expected}, and gets {verdict}:\n{text}");
+            self.wrong.push(wrong);
+        }
+        self.add(text)
     }
 
     /// Each of the 256 byte values for a digit, a letter, a bracket, a sign, a
@@ -151,7 +173,7 @@ impl Corpus {
             .chain(b"(f 1 ".repeat(MAX_BYTES).iter())
             .copied()
             .collect();
-        for size in [600, MAX_BYTES] {
+        for size in [600, MAX_BYTES, LONGEST] {
             self.add(deep[..size].to_vec());
         }
     }
@@ -238,40 +260,46 @@ impl Corpus {
             for past in [false, true] {
                 let mut bytes = 0;
                 for seed in 0..LIMIT_SEEDS {
-                    let text = limit_text(&mut Random::new(seed), kind, past).text;
-                    let size = text.len();
-                    let verdict = check(&text).to_string();
-                    let verdicts = self.limits.entry((kind, past)).or_default();
-                    let most = if verdicts.contains_key(&verdict) {
-                        LIMIT_BYTES
-                    } else {
-                        LIMIT_BYTES_NEW
-                    };
-                    if bytes + size <= most && self.add(text) {
-                        bytes += size;
-                        let verdicts = self.limits.entry((kind, past)).or_default();
-                        *verdicts.entry(verdict).or_default() += 1;
-                    }
+                    let sample = limit_text(&mut Random::new(seed), kind, past);
+                    bytes += self.add_limit((kind, past), sample, bytes);
                 }
             }
         }
+    }
+
+    /// Adds a text of a limit unless its texts have too many bytes already,
+    /// and gives the number of those that are added.
+    fn add_limit(&mut self, limit: (usize, bool), sample: Sample, before: usize) -> usize {
+        let Sample { text, expected } = sample;
+        let (size, name) = (text.len(), classify(&text).name());
+        let known = (self.limits.get(&limit)).is_some_and(|names| names.contains_key(&name));
+        let most = if known { LIMIT_BYTES } else { LIMIT_BYTES_NEW };
+        let expected = expected.map_or("unknown".into(), |verdict| verdict.to_string());
+        if before + size > most || !self.add_made(text, &expected) {
+            return 0;
+        }
+        let names = self.limits.entry(limit).or_default();
+        *names.entry(name).or_default() += 1;
+        size
+    }
+
+    /// The kinds of verdicts of a limit, in order.
+    fn limit_names(&self, limit: (usize, bool)) -> String {
+        let names = self.limits.get(&limit).into_iter().flat_map(BTreeMap::keys);
+        let names: Vec<&str> = names.map(String::as_str).collect();
+        names.join(", ")
     }
 
     /// The limits as a table: how many texts are at each and one past it, and
     /// their verdicts.
     pub fn limits(&self) -> String {
         let mut table = String::new();
-        for ((kind, past), verdicts) in &self.limits {
-            let count: u64 = verdicts.values().sum();
-            let mut named: Vec<&str> = verdicts.keys().map(String::as_str).collect();
-            named.truncate(3);
-            let side = if *past { "past it" } else { "at it" };
-            let more = if verdicts.len() > 3 { ", .." } else { "" };
-            table += &format!(
-                "{:<28} {side:<8}{count:>3}  {}{more}\n",
-                LIMITS[*kind],
-                named.join(", ")
-            );
+        for (&limit, names) in &self.limits {
+            let (kind, past) = limit;
+            let count: u64 = names.values().sum();
+            let side = if past { "past it" } else { "at it" };
+            let (name, names) = (LIMITS[kind].0, self.limit_names(limit));
+            table += &format!("{name:<28} {side:<8}{count:>3}  {names}\n");
         }
         table
     }
@@ -281,11 +309,12 @@ impl Corpus {
         let mut taken: BTreeMap<(Class, &str), u64> = BTreeMap::new();
         let mut long = 0;
         for seed in SEEDS {
-            let text = generate(seed);
+            let Sample { text, expected } = sample(seed);
             let class = classify(&text);
             let accepted = matches!(class, Class::Open | Class::Refuted);
+            let expected = expected.unwrap_or(check(&text)).to_string();
             if accepted && LONG.contains(&text.len()) && long < LONG_TEXTS {
-                long += u64::from(self.add(text));
+                long += u64::from(self.add_made(text, &expected));
                 continue;
             }
             if text.len() > SMALL {
@@ -304,7 +333,7 @@ impl Corpus {
             let wanted = keys
                 .iter()
                 .any(|key| taken.get(key).copied().unwrap_or(0) < most);
-            if wanted && self.add(text) {
+            if wanted && self.add_made(text, &expected) {
                 for key in keys {
                     *taken.entry(key).or_default() += 1;
                 }
@@ -312,10 +341,12 @@ impl Corpus {
         }
     }
 
-    /// What is missing: each verdict, each number, each rule accepted, and
-    /// each rule refused by each number from 7 to 11 that it can fail.
+    /// What is missing: each verdict, each number, each limit with its kinds of
+    /// verdicts, each rule accepted, and each rule refused by each number from 7
+    /// to 11 that it can fail. A text that doesn't get the verdict that it is
+    /// made for is told as well.
     pub fn missing(&self) -> Vec<String> {
-        let mut missing = Vec::new();
+        let mut missing = self.wrong.clone();
         let mut want = |times: u64, least: u64, what: String| {
             if times < least {
                 missing.push(format!("{what}: {times}, and {least} are wanted"));
@@ -329,13 +360,6 @@ impl Corpus {
             let least = if number == 1 { 4 } else { 40 };
             want(coverage.refused(number), least, format!("refused {number}"));
         }
-        for (kind, name) in LIMITS.iter().enumerate() {
-            for past in [false, true] {
-                let verdicts = self.limits.get(&(kind, past));
-                let texts = verdicts.map_or(0, |verdicts| verdicts.values().sum());
-                want(texts, 1, format!("{name}, past {past}"));
-            }
-        }
         for rule in RULES {
             want(coverage.accepted_with(rule), 30, format!("{rule} accepted"));
             for number in (7..=11).filter(|&number| can_fail(rule, number)) {
@@ -344,6 +368,16 @@ impl Corpus {
                     10,
                     format!("{rule} refused {number}"),
                 );
+            }
+        }
+        for (kind, (name, at, past)) in LIMITS.into_iter().enumerate() {
+            for (wanted, side) in [(at, false), (past, true)] {
+                let found = self.limit_names((kind, side));
+                if found != wanted {
+                    missing.push(format!(
+                        "{name}, past {side}: {found}, and {wanted} is wanted"
+                    ));
+                }
             }
         }
         missing

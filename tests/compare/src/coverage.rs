@@ -20,6 +20,17 @@ pub enum Class {
     Refused(u8, String),
 }
 
+impl Class {
+    /// The kind of the verdict: its word and, where refused, its number.
+    pub fn name(&self) -> String {
+        match self {
+            Class::Open => "open".into(),
+            Class::Refuted => "refuted".into(),
+            Class::Refused(number, _) => format!("refused {number}"),
+        }
+    }
+}
+
 /// The class of a text.
 pub fn classify(text: &[u8]) -> Class {
     class_of(text, check(text))

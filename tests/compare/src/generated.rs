@@ -1,69 +1,157 @@
 //! Generated texts, run in parallel.
 
 use std::sync::atomic::{AtomicU64, Ordering};
-use std::sync::Mutex;
+use std::sync::mpsc::{self, RecvTimeoutError, Sender};
+use std::sync::{Arc, Mutex};
 use std::thread;
+use std::time::{Duration, Instant};
 
 use second::check;
-use second::generate::generate;
+use second::generate::Sample;
 
-use crate::coverage::{class_of, Coverage};
+use crate::coverage::{class_of, Class, Coverage};
 use crate::line_of;
 
-/// A text on which the two differ.
+/// How often the workers are looked at.
+const LOOK: Duration = Duration::from_millis(100);
+
+/// Which texts are run, and how.
+#[derive(Clone, Copy, Debug)]
+pub struct Run {
+    /// The first seed, and how many.
+    pub seed: u64,
+    pub count: u64,
+    /// How many texts are run at a time.
+    pub workers: usize,
+    /// How long it may take to make a text and to check it by the second
+    /// checker.
+    pub limit: Duration,
+}
+
+/// A text on which the program, the second checker and what the generator
+/// expects, where it does, are not all the same.
 #[derive(Clone, Debug, PartialEq, Eq)]
 pub struct Difference {
     pub seed: u64,
     pub program: Vec<u8>,
     pub second: Vec<u8>,
+    pub expected: Option<Vec<u8>>,
 }
 
 /// What came of a run.
 #[derive(Debug, Default)]
 pub struct Outcome {
+    /// How many texts were run.
+    pub texts: u64,
     /// In the order of the seeds.
     pub differences: Vec<Difference>,
     /// Of all the texts, by the second checker's verdict.
     pub coverage: Coverage,
+    /// A seed whose text wasn't made and checked in time; the run ends there.
+    pub late: Option<u64>,
 }
 
-/// Holds a program against the second checker on the texts of some seeds.
-pub fn compare(
-    program: impl Fn(&[u8]) -> Vec<u8> + Sync,
-    seed: u64,
-    count: u64,
-    workers: usize,
-) -> Outcome {
-    let next = AtomicU64::new(0);
-    let outcome = Mutex::new(Outcome::default());
-    thread::scope(|scope| {
-        for _ in 0..workers {
-            scope.spawn(|| loop {
-                let index = next.fetch_add(1, Ordering::Relaxed);
-                if index >= count {
-                    break;
-                }
-                let seed = seed.wrapping_add(index);
-                let text = generate(seed);
-                let verdict = check(&text);
-                let second = line_of(verdict);
-                let class = class_of(&text, verdict);
-                let program = program(&text);
-                let mut outcome = outcome.lock().unwrap();
-                outcome.coverage.add_as(&text, class);
-                if program != second {
-                    outcome.differences.push(Difference {
-                        seed,
-                        program,
-                        second,
-                    });
-                }
-            });
+/// What came of one text.
+struct Result {
+    text: Vec<u8>,
+    class: Class,
+    difference: Option<Difference>,
+}
+
+/// What a worker is at: the seed of a text that is being made, and since when.
+type Work = Arc<Mutex<Option<(u64, Instant)>>>;
+
+/// Holds a program against the second checker, and both against what the
+/// generator expects, on the texts of some seeds.
+pub fn compare<G, P>(generate: G, program: P, run: Run) -> Outcome
+where
+    G: Fn(u64) -> Sample + Send + Sync + 'static,
+    P: Fn(&[u8]) -> Vec<u8> + Send + Sync + 'static,
+{
+    let next = Arc::new(AtomicU64::new(0));
+    let each = Arc::new(move |seed, work: &Work| one(&generate, &program, seed, work));
+    let (sender, receiver) = mpsc::channel();
+    let works: Vec<Work> = (0..run.workers).map(|_| Work::default()).collect();
+    for work in &works {
+        let (next, each, work, sender) = (next.clone(), each.clone(), work.clone(), sender.clone());
+        // A worker that is late can't be ended, but with the program.
+        thread::spawn(move || run_texts(run, &next, |seed| each(seed, &work), &sender));
+    }
+    drop(sender);
+
+    let mut outcome = Outcome::default();
+    let mut looked = Instant::now();
+    loop {
+        match receiver.recv_timeout(LOOK) {
+            Ok(result) => outcome.add(result),
+            Err(RecvTimeoutError::Timeout) => {}
+            Err(RecvTimeoutError::Disconnected) => break,
         }
-    });
-    let mut outcome = outcome.into_inner().unwrap();
+        if looked.elapsed() >= LOOK {
+            looked = Instant::now();
+            outcome.late = works.iter().find_map(|work| late(work, run.limit));
+            if outcome.late.is_some() {
+                break;
+            }
+        }
+    }
+    let seed = |difference: &Difference| difference.seed.wrapping_sub(run.seed);
+    outcome.differences.sort_by_key(seed);
+    // A worker that panicked has left its work.
+    outcome.late = outcome
+        .late
+        .or(works.iter().find_map(|work| late(work, Duration::ZERO)));
     outcome
-        .differences
-        .sort_by_key(|difference| difference.seed.wrapping_sub(seed));
-    outcome
+}
+
+/// Runs one text after another until there is none left or nobody listens.
+fn run_texts(run: Run, next: &AtomicU64, each: impl Fn(u64) -> Result, sender: &Sender<Result>) {
+    loop {
+        let index = next.fetch_add(1, Ordering::Relaxed);
+        if index >= run.count || sender.send(each(run.seed.wrapping_add(index))).is_err() {
+            break;
+        }
+    }
+}
+
+/// Makes a text, has it checked by both, and compares.
+fn one(
+    generate: &impl Fn(u64) -> Sample,
+    program: &impl Fn(&[u8]) -> Vec<u8>,
+    seed: u64,
+    work: &Work,
+) -> Result {
+    *work.lock().unwrap() = Some((seed, Instant::now()));
+    let Sample { text, expected } = generate(seed);
+    let verdict = check(&text);
+    *work.lock().unwrap() = None;
+    let second = line_of(verdict);
+    let expected = expected.map(line_of);
+    let program = program(&text);
+    let same = program == second && expected.as_ref().is_none_or(|line| *line == second);
+    Result {
+        class: class_of(&text, verdict),
+        text,
+        difference: (!same).then_some(Difference {
+            seed,
+            program,
+            second,
+            expected,
+        }),
+    }
+}
+
+/// The seed that a worker has been at for longer than it may.
+fn late(work: &Work, limit: Duration) -> Option<u64> {
+    let work = *work.lock().ok()?;
+    work.filter(|(_, since)| since.elapsed() > limit)
+        .map(|(seed, _)| seed)
+}
+
+impl Outcome {
+    fn add(&mut self, result: Result) {
+        self.texts += 1;
+        self.coverage.add_as(&result.text, result.class);
+        self.differences.extend(result.difference);
+    }
 }

@@ -4,12 +4,14 @@
 //! * [`examples`]: texts in a folder, each with its expected line beside it;
 //! * [`generated`]: generated texts, whose lines come from the second checker;
 //! * [`coverage`]: what a set of texts covers;
-//! * [`corpus`]: the stored corpus.
+//! * [`corpus`]: the stored corpus;
+//! * [`made`]: texts of it that are made for a verdict.
 
 pub mod corpus;
 pub mod coverage;
 pub mod examples;
 pub mod generated;
+pub mod made;
 pub mod program;
 
 /// The line that the second checker gives, with its line end.

@@ -1,49 +1,60 @@
 //! Runs the checker that is held against the second one.
 
-use std::io::{self, Write};
+use std::fs::File;
+use std::io::{self, Read, Write};
 use std::path::{Path, PathBuf};
-use std::process::{Command, Stdio};
+use std::process::{Child, Command, ExitStatus, Stdio};
+use std::sync::mpsc;
+use std::thread;
+use std::time::{Duration, Instant};
+
+/// So much of an output is read; a line is shorter.
+const ENOUGH: u64 = 4_096;
+/// How long a program that has closed its output is left before it is looked
+/// at again.
+const PAUSE: Duration = Duration::from_micros(50);
 
 /// The program, which reads a text on standard input and prints one line.
 #[derive(Clone, Debug)]
 pub struct Program {
     path: PathBuf,
+    /// How long it may take for a text.
+    limit: Duration,
+    /// Whether its exit status tells the answer: 0 accepted, 1 refused, 2 a
+    /// failed read. Otherwise it is always 0.
+    tells: bool,
+}
+
+/// What a run of the program gave.
+struct Output {
+    line: Vec<u8>,
+    message: Vec<u8>,
+    status: ExitStatus,
 }
 
 impl Program {
     /// Fails if there is no such file. A path without a slash is a file of
     /// the current folder and not a command to look for.
-    pub fn new(path: &str) -> io::Result<Self> {
+    pub fn new(path: &str, limit: Duration, tells: bool) -> io::Result<Self> {
         let path = Path::new(path).canonicalize()?;
-        Ok(Program { path })
+        Ok(Program { path, limit, tells })
     }
 
-    /// What the program prints on a text, or how it failed. It may stop
-    /// reading before the text's end.
+    /// What the program prints on a text, or how it failed.
     pub fn answer(&self, text: &[u8]) -> io::Result<Vec<u8>> {
-        let mut child = Command::new(&self.path)
-            .stdin(Stdio::piped())
-            .stdout(Stdio::piped())
-            .stderr(Stdio::piped())
-            .spawn()?;
-        let written = match child.stdin.take() {
-            Some(mut input) => input.write_all(text),
+        let mut child = self.spawn(Stdio::piped())?;
+        let mut input = child.stdin.take();
+        let text = text.to_vec();
+        // The program may stop reading before the text's end.
+        let output = self.output(child, move || match &mut input {
+            Some(input) => input.write_all(&text),
             None => Ok(()),
-        };
-        let output = child.wait_with_output()?;
-        match written {
-            Err(error) if error.kind() != io::ErrorKind::BrokenPipe => return Err(error),
-            _ => {}
+        })?;
+        let refused = self.tells && output.line.starts_with(b"refused ");
+        if output.status.code() != Some(i32::from(refused)) || !output.message.is_empty() {
+            return Err(output.failure());
         }
-        if !output.status.success() || !output.stderr.is_empty() {
-            let message = String::from_utf8_lossy(&output.stderr).into_owned();
-            let status = output.status;
-            return Err(io::Error::other(format!(
-                "{status}: {}",
-                message.trim_end()
-            )));
-        }
-        Ok(output.stdout)
+        Ok(output.line)
     }
 
     /// The answer, with a failure told in its place.
@@ -52,5 +63,99 @@ impl Program {
             Ok(line) => line,
             Err(error) => format!("failed: {error}").into_bytes(),
         }
+    }
+
+    /// Holds the program to what it does where standard input can't be read: a
+    /// message on standard error, no line, and its exit status where that
+    /// tells. A folder can be opened and not read.
+    pub fn tells_failed_read(&self) -> io::Result<()> {
+        let folder = File::open("/")?;
+        let child = self.spawn(folder.into())?;
+        let output = self.output(child, || Ok(()))?;
+        let told = output.line.is_empty() && !output.message.is_empty();
+        if !told || (self.tells && output.status.code() != Some(2)) {
+            return Err(output.failure());
+        }
+        Ok(())
+    }
+
+    fn spawn(&self, input: Stdio) -> io::Result<Child> {
+        Command::new(&self.path)
+            .stdin(input)
+            .stdout(Stdio::piped())
+            .stderr(Stdio::piped())
+            .spawn()
+    }
+
+    /// Gives the program its input, in a thread of its own, and waits for what
+    /// it prints. It is ended where it takes too long.
+    fn output(
+        &self,
+        mut child: Child,
+        feed: impl FnOnce() -> io::Result<()> + Send + 'static,
+    ) -> io::Result<Output> {
+        let end = Instant::now() + self.limit;
+        let (sender, receiver) = mpsc::channel();
+        let (line, message) = (child.stdout.take(), child.stderr.take());
+        thread::spawn(move || sender.send(feed_and_read(feed, line, message)));
+        let read = receiver.recv_timeout(self.limit);
+        let status = match &read {
+            Ok(_) => wait(&mut child, end)?,
+            Err(_) => None,
+        };
+        let (Ok(read), Some(status)) = (read, status) else {
+            child.kill()?;
+            child.wait()?;
+            let seconds = self.limit.as_secs_f32();
+            return Err(io::Error::other(format!(
+                "no answer within {seconds} seconds"
+            )));
+        };
+        let (line, message) = read?;
+        Ok(Output {
+            line,
+            message,
+            status,
+        })
+    }
+}
+
+impl Output {
+    /// What went wrong, in words.
+    fn failure(&self) -> io::Error {
+        let message = String::from_utf8_lossy(&self.message);
+        io::Error::other(format!("{}: {}", self.status, message.trim_end()))
+    }
+}
+
+/// Feeds the program and reads what it prints on both outputs.
+fn feed_and_read(
+    feed: impl FnOnce() -> io::Result<()>,
+    line: Option<impl Read>,
+    message: Option<impl Read>,
+) -> io::Result<(Vec<u8>, Vec<u8>)> {
+    match feed() {
+        Err(error) if error.kind() != io::ErrorKind::BrokenPipe => return Err(error),
+        _ => {}
+    }
+    Ok((read_some(line)?, read_some(message)?))
+}
+
+fn read_some(output: Option<impl Read>) -> io::Result<Vec<u8>> {
+    let mut bytes = Vec::new();
+    if let Some(output) = output {
+        output.take(ENOUGH).read_to_end(&mut bytes)?;
+    }
+    Ok(bytes)
+}
+
+/// Waits for the end of a program until a time.
+fn wait(child: &mut Child, end: Instant) -> io::Result<Option<ExitStatus>> {
+    loop {
+        let status = child.try_wait()?;
+        if status.is_some() || Instant::now() > end {
+            return Ok(status);
+        }
+        thread::sleep(PAUSE);
     }
 }

@@ -4,6 +4,14 @@ use std::fs;
 use std::os::unix::fs::PermissionsExt;
 use std::path::{Path, PathBuf};
 use std::process::{Command, Output};
+use std::thread;
+use std::time::Duration;
+
+use compare::generated::{self, Run};
+use compare::program::Program;
+use compare::second_line;
+use second::generate::{sample, Sample};
+use second::Verdict;
 
 const COMPARE: &str = env!("CARGO_BIN_EXE_compare");
 
@@ -74,18 +82,105 @@ fn differences_are_found_printed_and_kept() {
         .filter(|line| line.starts_with("seed "))
         .collect();
     assert_eq!(shown.len(), 10);
-    assert!(printed(&output).contains("  program: refused 9 "));
-    assert!(printed(&output).contains("  second:  refused 8 "));
+    assert!(printed(&output).contains("  program:   refused 9 "));
+    assert!(printed(&output).contains("  second:    refused 8 "));
 
     // The kept texts are examples: the wrong program fails them all, and the
-    // second checker passes them.
+    // second checker passes them. Both tell a failed read.
     let output = compare(&[&program, "--examples", keep]);
-    assert_eq!(last_line(&output), "0 passed, 10 failed");
+    assert_eq!(last_line(&output), "1 passed, 10 failed");
     assert_eq!(output.status.code(), Some(1));
     let right = script(&folder, "SECOND");
     let output = compare(&[&right, "--examples", keep]);
-    assert_eq!(last_line(&output), "10 passed, 0 failed");
+    assert_eq!(last_line(&output), "11 passed, 0 failed");
     assert!(output.status.success());
+}
+
+#[test]
+fn the_seeds_and_a_table_of_rules_by_numbers_are_printed() {
+    let folder = folder("table");
+    let program = script(&folder, "SECOND");
+    let output = printed(&compare(&[&program, "50", "100"]));
+    assert_eq!(output.lines().next(), Some("seeds 100 to 149"));
+    let heading = "         accepted     2     3     4     5     6     7     8     9    10    11";
+    let (_, table) = output.split_once(heading).unwrap();
+    for rule in second::generate::model::RULES {
+        assert!(table.contains(&format!("\n{rule}")), "{rule}");
+    }
+}
+
+/// The texts of a few seeds, with time for each.
+const FEW: Run = Run {
+    seed: 0,
+    count: 40,
+    workers: 2,
+    limit: Duration::from_secs(10),
+};
+
+#[test]
+fn what_the_generator_expects_is_compared() {
+    let wrong = |seed| Sample {
+        expected: Some(Verdict::Open { count: 9_999 }),
+        ..sample(seed)
+    };
+    let outcome = generated::compare(wrong, second_line, FEW);
+    assert_eq!((outcome.texts, outcome.differences.len()), (40, 40));
+    let outcome = generated::compare(sample, second_line, FEW);
+    assert_eq!((outcome.texts, outcome.differences.len()), (40, 0));
+    assert_eq!(outcome.late, None);
+}
+
+#[test]
+fn a_generator_that_takes_too_long_or_panics_ends_the_run() {
+    let slow = |seed| match seed {
+        7 => loop {
+            thread::sleep(Duration::from_secs(1));
+        },
+        _ => sample(seed),
+    };
+    let limit = Duration::from_secs(2);
+    let outcome = generated::compare(slow, second_line, Run { limit, ..FEW });
+    assert_eq!(outcome.late, Some(7));
+    let panics = |seed| match seed {
+        7 => panic!("on purpose"),
+        _ => sample(seed),
+    };
+    let outcome = generated::compare(panics, second_line, FEW);
+    assert_eq!((outcome.texts, outcome.late), (39, Some(7)));
+}
+
+#[test]
+fn a_program_that_takes_too_long_is_ended() {
+    let folder = folder("slow");
+    for commands in ["sleep 60", "echo open 0; exec >&- 2>&-; sleep 60", "yes"] {
+        let program = script(&folder, commands);
+        let program = Program::new(&program, Duration::from_millis(500), false).unwrap();
+        let failure = program.answer_or_failure(b"(sym 0)\n");
+        assert!(failure.starts_with(b"failed: "), "{commands}");
+    }
+}
+
+#[test]
+fn an_exit_status_that_tells_is_compared() {
+    let folder = folder("status");
+    let examples = concat!(env!("CARGO_MANIFEST_DIR"), "/../../examples");
+    let tells = "line=$(SECOND) || exit 2; echo \"$line\"; case $line in refused*) exit 1; esac";
+    let program = script(&folder, tells);
+    let output = compare(&["--status", &program, "--examples", examples]);
+    assert!(output.status.success(), "{}", printed(&output));
+    let output = compare(&["--status", &program, "100", "0"]);
+    assert_eq!(last_line(&output), "100 passed, 0 failed");
+    // Not so without the flag, nor with it where the status is always 0.
+    let output = compare(&[&program, "--examples", examples]);
+    assert_eq!(output.status.code(), Some(1));
+    let program = script(&folder, "SECOND || true");
+    let output = compare(&["--status", &program, "--examples", examples]);
+    assert_eq!(output.status.code(), Some(1));
+    let printed = printed(&output);
+    assert!(
+        printed.contains("standard input that can't be read"),
+        "{printed}"
+    );
 }
 
 #[test]
@@ -110,6 +205,7 @@ fn bad_usage_has_a_status_of_its_own() {
     for arguments in [
         &["/no/such/program", "1", "0"][..],
         &[COMPARE, "many", "0"],
+        &[COMPARE, "0", "1"],
         &[COMPARE, "--examples", "/no/such/folder"],
         &[],
     ] {

@@ -1,10 +1,11 @@
 //! `docs/GUIDE.md` quotes the examples as they are, and what it says of mended
-//! texts holds.
+//! texts holds. `docs/TEXT-FORM.md` has its numbers, limits and corners right.
 
 use std::fs;
 use std::path::{Path, PathBuf};
 
 use compare::{second_line, shown};
+use second::generate::model::{used_numbers, RULES};
 
 fn root() -> PathBuf {
     Path::new(env!("CARGO_MANIFEST_DIR")).join("../..")
@@ -37,8 +38,9 @@ fn texts_are_quoted_as_they_are() {
         quoted += 1;
         rest = after;
     }
-    // C1, the rules, the refusals but the first, the paper's proof, the survey.
-    assert_eq!(quoted, 1 + 12 + 10 + 1 + 2);
+    // C1, the rules, those for provers, the refusals but the first, the paper's
+    // proof, the survey.
+    assert_eq!(quoted, 1 + 12 + 2 + 10 + 1 + 2);
 }
 
 #[test]
@@ -84,4 +86,61 @@ fn the_list_of_examples_has_each_with_its_answer() {
     let mut found: Vec<String> = examples.into_iter().map(|example| example.name).collect();
     found.sort();
     assert_eq!(names, found);
+}
+
+/// The cells of the rows of a table of `docs/TEXT-FORM.md` whose first cell is
+/// this.
+fn row(first: &str) -> Vec<String> {
+    let page = fs::read_to_string(root().join("docs/TEXT-FORM.md")).unwrap();
+    let start = format!("| {first} |");
+    let rows: Vec<&str> = page.lines().filter(|row| row.starts_with(&start)).collect();
+    assert_eq!(rows.len(), 1, "{first}");
+    let cells = rows[0].trim_matches('|').split('|');
+    cells.map(|cell| cell.trim().to_string()).collect()
+}
+
+#[test]
+fn statements_are_numbered_one_by_one() {
+    let page = fs::read_to_string(root().join("docs/TEXT-FORM.md")).unwrap();
+    let mut last = ('G', 0);
+    for line in page.lines() {
+        let marked = line.strip_prefix("- **").or(line.strip_prefix("| **"));
+        let Some((mark, _)) = marked.and_then(|rest| rest.split_once("**")) else {
+            continue;
+        };
+        let (letter, number) = (mark.chars().next().unwrap(), mark[1..].parse().unwrap());
+        let next = match last {
+            // The checks 1 to 11 are V11 to V21.
+            ('V', 4) => ('V', 11),
+            (before, count) if before == letter => (letter, count + 1),
+            _ => (letter, 1),
+        };
+        assert_eq!((letter, number), next);
+        last = (letter, number);
+    }
+    assert_eq!(last, ('C', 12));
+}
+
+#[test]
+fn the_tables_of_the_text_form_are_the_second_checkers() {
+    for rule in RULES {
+        let used = used_numbers(rule).map(|used| if used { "yes" } else { "" });
+        assert_eq!(row(rule)[1..], used, "{rule}");
+    }
+    for (what, most) in [
+        ("bytes of a text", second::MAX_BYTES),
+        ("lines of a text", second::MAX_LINES),
+        ("symbols", second::MAX_SYMBOLS),
+        ("K of a sym line", second::MAX_ARITY.into()),
+        ("arguments of a method", second::MAX_ARGUMENTS.into()),
+        ("literals of a clause", second::MAX_LITERALS),
+        ("a variable's number", second::MAX_VARIABLE.into()),
+        ("terms of a LET", second::MAX_LIST_TERMS),
+    ] {
+        assert_eq!(row(what)[1].replace(',', ""), most.to_string(), "{what}");
+    }
+    for corner in 1..=10 {
+        let line = &row(&format!("**C{corner}**"))[2];
+        assert_eq!(*line, example(&format!("c{corner:02}")).1, "C{corner}");
+    }
 }

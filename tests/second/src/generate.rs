@@ -69,15 +69,29 @@ fn valid(random: &mut Random) -> Sample {
     };
     let rules = some_rules(random, 4);
     let mut derivation = derive(random, style, &rules);
-    let mut text = write_lines(&derivation.lines());
-    while text.len() > MAX_BYTES || derivation.lines().len() > MAX_LINES {
-        let kept = derivation.steps.len() * 9 / 10;
-        derivation.steps.truncate(kept);
-        text = write_lines(&derivation.lines());
-    }
+    let text = loop {
+        let lines = derivation.lines();
+        let text = write_lines(&lines);
+        if text.len() <= MAX_BYTES && lines.len() <= MAX_LINES {
+            break text;
+        }
+        shorten(&mut derivation);
+    };
     Sample {
         text,
         expected: Some(verdict(&derivation)),
+    }
+}
+
+/// Drops the last tenth of the steps, or, where there are none, of the
+/// inputs: at least one line, so that the text is short enough at some time.
+fn shorten(derivation: &mut Derivation) {
+    let steps = derivation.steps.len();
+    let inputs = derivation.inputs.len();
+    if steps > 0 {
+        derivation.steps.truncate(steps * 9 / 10);
+    } else {
+        derivation.inputs.truncate(inputs * 9 / 10);
     }
 }
 

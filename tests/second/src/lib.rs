@@ -1,8 +1,7 @@
 //! A second, independent checker for the text format of F-logic derivations
-//! laid down in document 01 ("F-logic derivations: text, meaning and
-//! verdict"), and a seeded generator of test texts for it.
+//! that `docs/TEXT-FORM.md` states, and a seeded generator of test texts for it.
 //!
-//! The checker is written from the words of that document alone. Each item
+//! The checker is written from that statement alone. Each item
 //! names the sentence it implements.
 //!
 //! * [`syntax`]: terms, literals, clauses and lines, as kept in memory;

@@ -1,12 +1,16 @@
 //! The generator, and the checker over what it makes.
 
-use std::collections::BTreeMap;
+use std::collections::{BTreeMap, BTreeSet};
+use std::sync::mpsc;
+use std::thread;
+use std::time::Duration;
 
 use second::generate::limits::{limit_text, KINDS};
-use second::generate::model::{uses_first, RULES};
+use second::generate::model::{uses_first, Term, RULES};
 use second::generate::random::Random;
+use second::generate::unify::Unifier;
 use second::generate::{generate, sample, valid_sample};
-use second::{check, Verdict};
+use second::{check, Verdict, MAX_BYTES};
 
 #[test]
 fn the_same_seed_gives_the_same_text() {
@@ -14,6 +18,51 @@ fn the_same_seed_gives_the_same_text() {
         assert_eq!(generate(seed), generate(seed));
     }
     assert_ne!(generate(1), generate(2));
+}
+
+/// Runs it in a thread of its own, which must end within ten seconds.
+fn soon<T: Send + 'static>(run: impl FnOnce() -> T + Send + 'static) -> T {
+    let (sender, receiver) = mpsc::channel();
+    thread::spawn(move || sender.send(run()));
+    let result = receiver.recv_timeout(Duration::from_secs(10));
+    result.expect("it takes more than ten seconds")
+}
+
+#[test]
+fn seeds_with_large_inputs_give_a_text_soon() {
+    for seed in [20452785, 1376431, 1341076] {
+        let sample = soon(move || sample(seed));
+        assert!(sample.text.len() <= MAX_BYTES, "seed {seed}");
+        let verdict = check(&sample.text);
+        assert_eq!(verdict, sample.expected.unwrap_or(verdict), "seed {seed}");
+    }
+}
+
+/// Each variable from the first on stands for a pair of the next one, so
+/// that the terms are too large to be built.
+fn bind_pairs(unifier: &mut Unifier, first: u32) -> u32 {
+    for variable in first..first + 100 {
+        let part = Term::Var(variable + 1);
+        unifier.bind(variable, Term::App(0, vec![part.clone(), part]));
+    }
+    first + 100
+}
+
+#[test]
+fn terms_that_share_parts_are_not_built() {
+    soon(|| {
+        let mut unifier = Unifier::default();
+        let last = bind_pairs(&mut unifier, 0);
+        let (large, small) = (Term::Var(0), Term::Var(last - 2));
+        assert_eq!(unifier.size([&large]), usize::MAX);
+        assert_eq!(unifier.size([&small, &small]), 14);
+        assert_eq!(unifier.variables([&large]), BTreeSet::from([last]));
+        assert_eq!(unifier.resolve(&small).size(), 7);
+        // The occurs check, and terms that are equal but too large to compare.
+        assert!(!unifier.unify(&Term::Var(last), &large));
+        bind_pairs(&mut unifier, 1_000);
+        assert!(!unifier.unify(&large, &Term::Var(1_000)));
+    });
 }
 
 #[test]

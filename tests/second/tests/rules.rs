@@ -307,7 +307,8 @@ fn par() {
             ),
             (
                 0,
-                "(by par 0 1 1 0 3 (let A (f 3 X)) (let (f 3 X)) (or (- (mv (f 4 A B) (f 3 (f 3 X)) (C) none)) (+ (obj (f 3 X))) (+ (obj (f 3 X)))))",
+                "(by par 0 1 1 0 3 (let A (f 3 X)) (let (f 3 X)) (or (- (mv (f 4 A B) (f 3 (f 3 X)) (C) none)) \
+                 (+ (obj (f 3 X))) (+ (obj (f 3 X)))))",
             ),
             (
                 0,

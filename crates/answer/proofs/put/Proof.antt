@@ -1,39 +1,30 @@
--- `answer::put` meets its contract. The invariant of its loop: the first at + i bytes of `out` are those before at and then the first i of `part`. The measure is what is left of `part`.
+-- `answer::put` meets its contract. The invariant of its loop: the first i bytes of `part` are stored. The measure is what is left of it.
 -- Assumes nothing.
-use Prim.Native.Nat.{ℕ, _+_, _-_, _≤_, _<_}
+use Prim.Native.Nat.{ℕ, _+_, _-_, _≤_}
 use mathlib.Core.Path.{_≡_, refl, ap, _∙_}
-use mathlib.Core.List.{List, _++_, append-assoc, append-nil}
-use native.Mathlib.Nat.{add-zero, add-suc, le-antisymm}
-use native.Mathlib.Numerals.{add-one}
+use mathlib.Core.List.{List}
 use native.Mathlib.Omega.{arith}
 use lib.ListN.{length, take, set, getD, length-set}
-use lib.Seq.{take-suc, take-suc-set, take-length}
+use lib.Seq.{sets, take-all}
+use Rattle.answer.proofs.Stores.{sets-more}
 use Rattle.answer.proofs.put.Statement.{statement}
 use Rattle.answer.proofs.put.Tie as tie
 
 abbrev Inv-loop : tie.InvT-loop
-Inv-loop part out₀ at i₀ out i = (i ≤ length part) × (length out ≡ length out₀) × (take (at + i) out ≡ take at out₀ ++ take i part)
+Inv-loop part out₀ at i₀ out i = (i ≤ length part) × (length out ≡ length out₀) × (out ≡ sets out₀ at (take i part))
 
 abbrev μ-loop : tie.MeasureT-loop
 μ-loop part out₀ at i₀ out i = length part - i
 
--- one more byte
-more : (part out out₀ : List ℕ) (at i : ℕ) → i < length part → at + i < length out → take (at + i) out ≡ take at out₀ ++ take i part
-    → take (at + (i + 1)) (set out (at + i) (getD part i 0)) ≡ take at out₀ ++ take (i + 1) part
-more part out out₀ at i h room e =
-    rw (add-one i, add-suc at i, take-suc-set out (at + i) (getD part i 0) room, e, take-suc part i 0 h, append-assoc)
-
-loop-holds : tie.Need-loop-holds Inv-loop μ-loop
-loop-holds c = (omega arith, refl, rw (add-zero, append-nil))
-
 loop-again : tie.Need-loop-again Inv-loop μ-loop
 loop-again c =
     let at = c .before .before .before .args .at in
-    let i = c .before .before .loop .i in
-    let room : at + i < length (c .before .before .loop .out) = omega arith in (
+    let at-loop = c .before .before .loop in
+    let i = at-loop .i in
+    let byte = getD (c .before .before .before .args .part .now) i 0 in (
       omega arith,
-      length-set (c .before .before .loop .out) (at + i) _ ∙ c .before .before .loop .inv .1,
-      more _ _ _ at i (c .before .loop-test .taken) room (c .before .before .loop .inv .2),
+      length-set (at-loop .out) (at + i) _ ∙ at-loop .inv .1,
+      ap (λ (l : List ℕ). set l (at + i) byte) (at-loop .inv .2) ∙ sets-more _ _ at i (c .before .loop-test .taken),
     )
 
 same-length : tie.Need-same-length Inv-loop μ-loop
@@ -41,13 +32,11 @@ same-length c = c .before .loop .inv .1
 
 returns : tie.Need-returns Inv-loop μ-loop
 returns c =
-    let end = le-antisymm (c .before .loop .inv .0) (c .loop-test .left) in (
-      ap (λ (k : ℕ). c .before .before .args .at + k) end,
-      c .before .loop .inv .2 ∙ rw (end, take-length),
-    )
+    let args = c .before .before .args in
+    c .before .loop .inv .2 ∙ ap (λ (l : List ℕ). sets (args .out .now) (args .at) l) (take-all _ _ (c .loop-test .left))
 
 pub put-spec : {M : Type 1} → statement M
 put-spec =
     tie.close (tie.spec
-    Inv-loop μ-loop loop-holds (λ c. omega arith) (λ c. omega arith) (λ c. omega arith) (λ c. omega arith)
-    (λ c. omega arith) loop-again (λ c. omega arith) same-length returns)
+    Inv-loop μ-loop (λ c. (omega arith, refl, refl)) (λ c. omega arith) (λ c. omega arith) (λ c. omega arith) (λ c. omega arith)
+    (λ c. omega arith) loop-again same-length returns)

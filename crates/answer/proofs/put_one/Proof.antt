@@ -1,18 +1,28 @@
 -- `answer::put_one` meets its contract.
 -- Assumes nothing.
+use Prim.Native.Nat.{ℕ}
+use mathlib.Core.List.{List, [], _∷_, _++_}
 use native.Mathlib.Omega.{arith}
+use denote.Ref.{now}
 use borrow.Author.Needs.{needs}
-use Rattle.answer.specs.Line.{spaced}
-use Rattle.answer.proofs.Join.{one-number}
+use Rattle.answer.specs.Line.{numeral}
+use Rattle.answer.proofs.Stores.{both-stored, line-cons, ended}
 use Rattle.answer.proofs.put_one.Statement.{statement}
 use Rattle.answer.proofs.put_one.Tie as tie
 
 returns : tie.Need-returns
-unfolding spaced
-returns c = (omega arith, one-number _ _ (c .before .before .put2 .ensures .1) (c .before .before .before .before .before .before .before .put-number .ensures .1) (c .before .before .before .before .before .before .before .before .before .before .before .put .ensures .1))
+returns c =
+    let after-a = c .before .before .before .before .before .before .before in
+    let after-word = after-a .before .before .before .before in
+    let args = after-word .before .before .before .before .args in
+    let out = now (args .out) in
+    let word = now (args .word) in
+    let a : List ℕ = 32 ∷ numeral (args .a) in
+    let stored = both-stored out 0 word a (omega arith, after-word .put .ensures) (after-a .put-number .ensures .1) in
+    (omega arith, rw (← line-cons word (args .a) []) (ended out (word ++ a) stored (c .before .before .put2 .ensures)))
 
 pub put-one-spec : {M : Type 1} → statement M
 put-one-spec =
     tie.close (tie.spec
     (λ c κs. search needs) (λ c κs. search needs) (λ c. search needs) (λ c κs. search needs) (λ c. search needs)
-    returns)
+    (λ c. search needs) returns)

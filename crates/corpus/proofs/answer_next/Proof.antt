@@ -10,7 +10,8 @@ use Rattle.corpus.proofs.answer_next.Statement.{statement}
 use Rattle.corpus.proofs.answer_next.Tie as tie
 
 slice-aggregate-read-full : tie.Need-slice-aggregate-read-full
-slice-aggregate-read-full c = sym (length-take-le (c .before .before .before .args .n) (c .before .before .large-buffer .result) (omega arith))
+slice-aggregate-read-full c =
+    sym (length-take-le (c .before .before .before .args .n) (c .before .before .large-buffer .result) (omega arith))
 
 array-share-prefix-text : tie.Need-array-share-prefix-text
 array-share-prefix-text c =

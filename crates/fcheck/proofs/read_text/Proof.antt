@@ -1,4 +1,5 @@
--- `fcheck::read_text` meets its contract. The invariant: the bytes read lie within the buffer, which keeps its length. The measure is what is left of it.
+-- `fcheck::read_text` meets its contract. The invariant: the bytes read lie within the buffer, which keeps its length.
+-- The measure is what is left of it.
 -- Assumes nothing.
 use Prim.Native.Nat.{_≤_, _-_}
 use mathlib.Core.Path.{_≡_}

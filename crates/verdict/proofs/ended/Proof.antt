@@ -1,32 +1,36 @@
 -- `verdict::ended` meets its contract.
-use mathlib.Core.Path.{_≡_, sym, _∙_}
+use denote.Ref.{now}
+use mathlib.Core.Path.{sym}
 use native.Mathlib.Omega.{arith}
-use lib.Seq.{length-take-le}
-use Rattle.reader.specs.ReadLine.{heldTable}
-use Rattle.verdict.specs.Running.{Ended}
-use Rattle.verdict.proofs.Running.{tells-failed, tells-passed, tells-step}
+use Rattle.verdict.proofs.Running.{is-ended, not-ended, line-end-within, bytes-ended, bytes-unended}
 use Rattle.verdict.proofs.ended.Statement.{statement}
 use Rattle.verdict.proofs.ended.Tie as tie
 
-slice-aggregate-see : tie.Need-slice-aggregate-see
-slice-aggregate-see c = sym (length-take-le _ _ (c .before .before .before .before .before .before .before .pre))
-
 returns : tie.Need-returns
-unfolding Ended heldTable
-returns c = λ st rest R room l d. tells-failed R room _ rest _ l d (c .before .before .before .see .ensures) (c .before .adds .ensures) (c .if1 .taken)
+returns c =
+    let a = c .before .before .args in
+    let p = c .before .before .pre in
+    sym (bytes-unended 0 (now (a .text)) (a .at) (p .0) (not-ended _ _ (p .0) (omega (arith, p .1, c .before .if1 .taken))))
+
+sub-result-2 : tie.Need-sub-result-2
+sub-result-2 c =
+    let a = c .before .args in
+    let p = c .before .pre in
+    omega (arith, p .1, line-end-within (now (a .text)) (a .at) (p .0) (is-ended _ _ (p .0) (omega (arith, p .1, c .if1 .left))))
+
+part-result-start-2 : tie.Need-part-result-start-2
+part-result-start-2 c =
+    let a = c .before .args in
+    let p = c .before .pre in
+    omega (arith, p .1, line-end-within (now (a .text)) (a .at) (p .0) (is-ended _ _ (p .0) (omega (arith, p .1, c .if1 .left))))
 
 returns-2 : tie.Need-returns-2
-unfolding Ended heldTable
 returns-2 c =
-    λ st rest R room l d. tells-passed R room _ rest _ l d (c .before .before .before .before .before .see .ensures) (c .before .before .before .adds .ensures) (omega (arith, c .before .before .if1 .left)) (λ q. c .if2 .taken (c .before .form-number .ensures ∙ q))
-
-returns-3 : tie.Need-returns-3
-unfolding Ended heldTable
-returns-3 c =
-    let b : c .before .before .before .form-number .result ≡ 3 = omega (arith, c .before .before .if2 .left) in
-    λ st rest R room l d. tells-step R room _ rest _ l d (c .before .before .before .before .before .before .before .see .ensures) (c .before .before .before .before .before .adds .ensures) (omega (arith, c .before .before .before .before .if1 .left)) (sym (c .before .before .before .form-number .ensures) ∙ b) _ (c .before .judged .ensures) (c .number .ensures)
+    let a = c .before .before .args in
+    let p = c .before .before .pre in
+    rw (p .1) (sym (bytes-ended 0 (now (a .text)) (a .at) (p .0) (is-ended _ _ (p .0) (omega (arith, p .1, c .before .if1 .left)))))
 
 pub ended-spec : {M : Type 1} → statement M
 ended-spec =
     tie.close (tie.spec
-    slice-aggregate-see (λ c κs. tt) (λ c κs. tt) returns (λ c κs. tt) returns-2 (λ c κs. tt) (λ c κs. tt) returns-3)
+    (λ c. omega arith) (λ c. omega arith) (λ c. omega arith) returns sub-result-2 part-result-start-2 (λ c. omega arith) returns-2)

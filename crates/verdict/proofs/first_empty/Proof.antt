@@ -14,14 +14,14 @@ abbrev μ-loop : tie.MeasureT-loop
 
 returns : tie.Need-returns Inv-loop μ-loop
 unfolding FindsEmpty
-returns c = λ text st R. empty-found _ _ _ (c .before .before .loop .inv .1) (omega arith) (c .if1 .taken) _ (R .count) (λ m h. R .sizes m h .0)
+returns c = λ depth text st R. empty-found _ _ _ (c .before .before .loop .inv .1) (omega arith) (c .if1 .taken) _ (R .count) (R .literals)
 
 loop-again : tie.Need-loop-again Inv-loop μ-loop
 loop-again c = (omega arith, one-passed _ _ _ (c .before .before .loop .inv .1) (omega arith) (c .if1 .left))
 
 returns-2 : tie.Need-returns-2 Inv-loop μ-loop
 unfolding FindsEmpty
-returns-2 c = λ text st R. all-passed _ _ _ (c .before .loop .inv .1) (omega arith) _ (R .count) (λ m h. R .sizes m h .0)
+returns-2 c = λ depth text st R. all-passed _ _ _ (c .before .loop .inv .1) (omega arith) _ (R .count) (R .literals)
 
 pub first-empty-spec : {M : Type 1} → statement M
 first-empty-spec =

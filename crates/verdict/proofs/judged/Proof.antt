@@ -1,15 +1,18 @@
 -- `verdict::judged` meets its contract.
 use denote.Ref.{now}
+use borrow.Author.Needs.{needs}
 use Rattle.verdict.proofs.Judging.{judges-read}
 use Rattle.verdict.proofs.judged.Statement.{statement}
 use Rattle.verdict.proofs.judged.Tie as tie
 
 returns : tie.Need-returns
 returns c =
-    let a = c .before .before .before .before .before .before .before .before .before .before .before .before .args in
-    judges-read (now (a .text)) (now (a .starts)) (now (a .literals)) (now (a .widths)) (a .clauses) (now (a .line)) (a .l) _ _ _ _ _ (c .before .before .before .before .before .before .clause .ensures) (c .before .before .before .before .before .clause2 .ensures) (c .before .before .before .before .size .ensures) (c .before .before .before .size2 .ensures) (c .before .before .size3 .ensures) (c .before .size4 .ensures) (c .judge .ensures .1)
+    let a = c .before .before .before .before .before .before .before .before .before .before .before .args in
+    judges-read (a .depth) (now (a .text)) (a .own) (a .a) (a .b) (now (a .line)) (a .l) _ _ _ (c .before .before .before .clause-part .ensures .0)
+    (c .before .clause-part2 .ensures .0) (c .judge .ensures .1 .0)
 
 pub judged-spec : {M : Type 1} → statement M
 judged-spec =
     tie.close (tie.spec
-    (λ c κs. tt) (λ c κs. tt) (λ c κs. tt) (λ c κs. tt) (λ c κs. tt) (λ c κs. tt) (λ c κs. tt) returns)
+    (λ c. search needs) (λ c. search needs) (λ c. search needs) (λ c. search needs) (λ c. search needs) (λ c κs. tt) (λ c. search needs) (λ c κs. tt)
+    (λ c κs. tt) returns)

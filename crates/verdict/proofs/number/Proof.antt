@@ -1,5 +1,5 @@
 -- `verdict::number` meets its contract.
-use Rattle.logic.specs.Judge.{judgedNumber}
+use Rattle.logic.specs.StepChecks.{judgedNumber}
 use borrow.Author.Needs.{needs}
 use Rattle.verdict.proofs.number.Statement.{statement}
 use Rattle.verdict.proofs.number.Tie as tie

@@ -1,28 +1,34 @@
 //! Holds a checker, run as a program, against the second checker.
 
 use std::io::{self, Read, Write};
-use std::path::{Path, PathBuf};
+use std::path::Path;
 use std::process::ExitCode;
+use std::time::Duration;
 
 use compare::examples::{read_examples, write_example, Example};
-use compare::generated;
+use compare::generated::{self, Difference, Run};
 use compare::program::Program;
 use compare::{second_line, shown};
-use second::generate::generate;
+use second::generate::{generate, sample};
 
 const USAGE: &str = "\
-usage: compare FCHECK COUNT SEED [KEEP_DIR]   the texts of COUNT seeds from SEED on
-       compare FCHECK --examples DIR          the texts DIR/*.flogic, against DIR/*.answer
-       compare --second                       the second checker itself, on standard input
-FCHECK is a program that reads a text on standard input and prints one line.
-The texts of the first differences are kept in KEEP_DIR (target/compare).";
+usage: compare [--status] FCHECK COUNT SEED [KEEP_DIR]   the texts of COUNT seeds from SEED on
+       compare [--status] FCHECK --examples DIR   the texts DIR/*.flogic, against DIR/*.answer
+       compare --second   the second checker itself, on standard input
+FCHECK is a program that reads a text on standard input and prints one line. With --status its
+exit status is 0 where the text is accepted, 1 where it is refused and 2 after a failed read;
+without, it is 0 after every text. The texts of the first differences are kept in KEEP_DIR
+(target/compare).";
 
 /// How many differences are printed and kept.
 const SHOWN: usize = 10;
 /// How many texts are run at a time.
 const WORKERS: usize = 2;
+/// How long the generator and the program each may take for a text.
+const LIMIT: Duration = Duration::from_secs(10);
 
 /// How many texts passed and how many failed.
+#[derive(Default)]
 struct Count {
     passed: u64,
     failed: u64,
@@ -46,34 +52,31 @@ fn main() -> ExitCode {
 fn run(arguments: &[String]) -> Result<Option<Count>, String> {
     let arguments: Vec<&str> = arguments.iter().map(String::as_str).collect();
     let tell = |error: io::Error| error.to_string();
-    match arguments[..] {
-        ["--second"] => second().map_err(tell).map(|()| None),
+    let (tells, arguments) = match &arguments[..] {
+        ["--status", rest @ ..] => (true, rest),
+        rest => (false, rest),
+    };
+    let count = match *arguments {
+        ["--second"] => return second().map_err(tell).map(|()| None),
         [program, "--examples", folder] | ["--examples", folder, program] => {
-            let program = open(program)?;
-            run_examples(&program, Path::new(folder))
-                .map(Some)
-                .map_err(tell)
+            run_examples(&open(program, tells)?, Path::new(folder))
         }
         [program, count, seed] => {
-            let keep = PathBuf::from("target/compare");
-            let program = open(program)?;
-            run_generated(&program, number(count)?, number(seed)?, &keep)
-                .map(Some)
-                .map_err(tell)
+            let keep = Path::new("target/compare");
+            run_generated(open(program, tells)?, number(count)?, number(seed)?, keep)
         }
         [program, count, seed, keep] => {
-            let program = open(program)?;
             let keep = Path::new(keep);
-            run_generated(&program, number(count)?, number(seed)?, keep)
-                .map(Some)
-                .map_err(tell)
+            run_generated(open(program, tells)?, number(count)?, number(seed)?, keep)
         }
-        _ => Err(USAGE.into()),
-    }
+        _ => return Err(USAGE.into()),
+    };
+    count.map(Some).map_err(tell)
 }
 
-fn open(program: &str) -> Result<Program, String> {
-    Program::new(program).map_err(|error| format!("{program}: {error}"))
+fn open(program: &str, tells: bool) -> Result<Program, String> {
+    let opened = Program::new(program, LIMIT, tells);
+    opened.map_err(|error| format!("{program}: {error}"))
 }
 
 fn number(argument: &str) -> Result<u64, String> {
@@ -89,34 +92,53 @@ fn second() -> io::Result<()> {
     io::stdout().write_all(&second_line(&text))
 }
 
-fn run_generated(program: &Program, count: u64, seed: u64, keep: &Path) -> io::Result<Count> {
-    let answer = |text: &[u8]| program.answer_or_failure(text);
-    let outcome = generated::compare(answer, seed, count, WORKERS);
-    for difference in outcome.differences.iter().take(SHOWN) {
-        let example = Example {
-            name: format!("seed-{}", difference.seed),
-            text: generate(difference.seed),
-            expected: difference.second.clone(),
-        };
-        let path = write_example(keep, &example)?;
-        println!("seed {}: {}", difference.seed, path.display());
-        println!("  program: {}", shown(&difference.program));
-        println!("  second:  {}", shown(&difference.second));
+fn run_generated(program: Program, count: u64, seed: u64, keep: &Path) -> io::Result<Count> {
+    if count == 0 {
+        return Err(io::Error::other("no text"));
     }
-    println!("{}", outcome.coverage.summary());
-    let failed = outcome.differences.len() as u64;
-    Ok(Count {
-        passed: count - failed,
-        failed,
-    })
+    println!("seeds {seed} to {}", seed.wrapping_add(count - 1));
+    let run = Run {
+        seed,
+        count,
+        workers: WORKERS,
+        limit: LIMIT,
+    };
+    let answer = move |text: &[u8]| program.answer_or_failure(text);
+    let outcome = generated::compare(sample, answer, run);
+    for difference in outcome.differences.iter().take(SHOWN) {
+        keep_and_print(difference, keep)?;
+    }
+    print!("{}", outcome.coverage);
+    if let Some(seed) = outcome.late {
+        let seconds = LIMIT.as_secs();
+        println!("seed {seed}: not made and checked within {seconds} seconds; the run ends here");
+    }
+    // A text that wasn't run has failed.
+    let passed = outcome.texts - outcome.differences.len() as u64;
+    let failed = count - passed;
+    Ok(Count { passed, failed })
 }
 
-/// Each example's expected line must be the second checker's too.
-fn run_examples(program: &Program, folder: &Path) -> io::Result<Count> {
-    let mut count = Count {
-        passed: 0,
-        failed: 0,
+fn keep_and_print(difference: &Difference, keep: &Path) -> io::Result<()> {
+    let example = Example {
+        name: format!("seed-{}", difference.seed),
+        text: generate(difference.seed),
+        expected: difference.second.clone(),
     };
+    let path = write_example(keep, &example)?;
+    println!("seed {}: {}", difference.seed, path.display());
+    println!("  program:   {}", shown(&difference.program));
+    println!("  second:    {}", shown(&difference.second));
+    if let Some(expected) = &difference.expected {
+        println!("  generator: {}", shown(expected));
+    }
+    Ok(())
+}
+
+/// Each example's expected line must be the second checker's too. A failed
+/// read is one more.
+fn run_examples(program: &Program, folder: &Path) -> io::Result<Count> {
+    let mut count = Count::default();
     for example in read_examples(folder)? {
         let answer = program.answer_or_failure(&example.text);
         let second = second_line(&example.text);
@@ -129,6 +151,14 @@ fn run_examples(program: &Program, folder: &Path) -> io::Result<Count> {
         println!("  expected: {}", shown(&example.expected));
         println!("  program:  {}", shown(&answer));
         println!("  second:   {}", shown(&second));
+    }
+    match program.tells_failed_read() {
+        Ok(()) => count.passed += 1,
+        Err(error) => {
+            count.failed += 1;
+            println!("standard input that can't be read");
+            println!("  program:  {error}");
+        }
     }
     Ok(count)
 }

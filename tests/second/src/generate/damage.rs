@@ -147,9 +147,9 @@ impl<'a> Damager<'a> {
         };
         let mut terms: Vec<&mut Term> = match line {
             Line::Sym(_) => return,
-            Line::In(clause) => clause_terms(clause).collect(),
+            Line::In(clause) => terms_mut(clause).collect(),
             Line::By(step) => (step.lists.iter_mut().flatten())
-                .chain(clause_terms(&mut step.claim))
+                .chain(terms_mut(&mut step.claim))
                 .collect(),
         };
         if terms.is_empty() {
@@ -567,7 +567,7 @@ fn line_clause(line: &mut Line) -> Option<&mut Clause> {
     }
 }
 
-fn clause_terms(clause: &mut Clause) -> impl Iterator<Item = &mut Term> {
+fn terms_mut(clause: &mut Clause) -> impl Iterator<Item = &mut Term> {
     (clause.iter_mut()).flat_map(|literal| literal.atom.terms.iter_mut())
 }
 

@@ -7,8 +7,8 @@
 use std::collections::{BTreeMap, BTreeSet};
 
 use super::model::{
-    clause_variables, occurrence_in, occurrence_in_mut, uses_second, Atom, Clause, Line, Literal,
-    Step, Term, ARROWS, PAIRS, RULES,
+    clause_terms, clause_variables, occurrence_in, occurrence_in_mut, uses_second, Atom, Clause,
+    Line, Literal, Step, Term, ARROWS, PAIRS, RULES,
 };
 use super::random::Random;
 use super::unify::Unifier;
@@ -16,6 +16,12 @@ use crate::{MAX_DEPTH, MAX_LITERALS, MAX_VARIABLE};
 
 /// The variables of B are renamed by adding this.
 const APART: u32 = MAX_VARIABLE as u32 + 1;
+/// A random term has at most so many occurrences of terms besides itself.
+const TERM_SIZE: usize = 120;
+/// An input clause of more than one literal has at most so many.
+const CLAUSE_SIZE: usize = 500;
+/// Parents that have more once they are filled aren't tried.
+const FILLED_SIZE: usize = 20_000;
 
 /// A derivation with its written steps.
 #[derive(Clone, Debug)]
@@ -131,14 +137,30 @@ pub fn derive(random: &mut Random, style: Style, rules: &[&'static str]) -> Deri
 /// A random term over a table of symbols, at least one of which takes no
 /// term; its variables are below `variables`.
 pub fn random_term(random: &mut Random, arities: &[usize], depth: usize, variables: usize) -> Term {
+    grow_term(random, arities, depth, variables, &mut TERM_SIZE.clone())
+}
+
+/// A random term with at most `left` occurrences besides itself, which are
+/// taken off.
+fn grow_term(
+    random: &mut Random,
+    arities: &[usize],
+    depth: usize,
+    variables: usize,
+    left: &mut usize,
+) -> Term {
     if variables > 0 && random.percent(30) {
         return Term::Var(random.below(variables) as u32);
     }
-    let fits = |&symbol: &usize| depth > 1 || arities[symbol] == 0;
+    let fits = |&symbol: &usize| {
+        let arity = arities[symbol];
+        arity == 0 || (depth > 1 && arity <= *left)
+    };
     let symbols: Vec<usize> = (0..arities.len()).filter(fits).collect();
     let symbol = *random.pick(&symbols);
+    *left -= arities[symbol];
     let parts = (0..arities[symbol])
-        .map(|_| random_term(random, arities, depth - 1, variables))
+        .map(|_| grow_term(random, arities, depth - 1, variables, left))
         .collect();
     Term::App(symbol as u32, parts)
 }
@@ -330,10 +352,15 @@ impl<'r> Builder<'r> {
     }
 
     /// Adds an input made more general from these ground literals and some
-    /// random ones.
+    /// random ones, as many as its size allows.
     fn add_clause(&mut self, mut literals: Clause) {
         for _ in 0..self.random.between(0, self.style.extra_literals) {
             literals.push(self.ground_literal());
+        }
+        while literals.len() > 1
+            && clause_terms(&literals).map(Term::size).sum::<usize>() > CLAUSE_SIZE
+        {
+            literals.pop();
         }
         self.random.shuffle(&mut literals);
         let mut generaliser = self.generaliser();
@@ -456,6 +483,10 @@ impl<'r> Builder<'r> {
             }
         }
         let names = self.instantiate(&mut unifier, &first, &second);
+        let terms = || clause_terms(&first).chain(clause_terms(&second));
+        if unifier.size(terms()) > FILLED_SIZE {
+            return None;
+        }
         let fill_term = |term: &Term| {
             let resolved = unifier.resolve(term);
             resolved.map_variables(&mut |variable| Term::Var(names[&variable]))
@@ -513,16 +544,8 @@ impl<'r> Builder<'r> {
         first: &[Literal],
         second: &[Literal],
     ) -> BTreeMap<u32, u32> {
-        let mut all = clause_variables(first);
-        all.extend(clause_variables(second));
-        let free = |unifier: &Unifier| {
-            let mut found = BTreeSet::new();
-            for &variable in &all {
-                let image = unifier.resolve(&Term::Var(variable));
-                image.collect_variables(&mut found);
-            }
-            found
-        };
+        let free =
+            |unifier: &Unifier| unifier.variables(clause_terms(first).chain(clause_terms(second)));
 
         let chance = *self.random.pick(&[0, 0, 20, 60]);
         let before = free(unifier);
@@ -571,7 +594,7 @@ impl<'r> Builder<'r> {
 
     /// Whether the step keeps the limits on what can be written.
     fn is_writable(&self, step: &Step) -> bool {
-        let claimed = step.claim.iter().flat_map(|literal| &literal.atom.terms);
+        let claimed = clause_terms(&step.claim);
         let listed = step.lists.iter().flatten();
         let mut size = 0;
         let fits = claimed.chain(listed).all(|term| {

@@ -253,12 +253,15 @@ impl Literal {
 /// The literals of a clause in order.
 pub type Clause = Vec<Literal>;
 
+/// The terms of a clause in order.
+pub fn clause_terms(clause: &[Literal]) -> impl Iterator<Item = &Term> {
+    clause.iter().flat_map(|literal| &literal.atom.terms)
+}
+
 /// The variables of a clause.
 pub fn clause_variables(clause: &[Literal]) -> BTreeSet<u32> {
     let mut found = BTreeSet::new();
-    for term in clause.iter().flat_map(|literal| &literal.atom.terms) {
-        term.collect_variables(&mut found);
-    }
+    clause_terms(clause).for_each(|term| term.collect_variables(&mut found));
     found
 }
 

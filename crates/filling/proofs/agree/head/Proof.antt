@@ -10,14 +10,14 @@ use Rattle.filling.proofs.agree.head.Tie as tie
 returns : tie.Need-returns
 unfolding headAt
 returns c =
-    let e = c .before .clause-part .ensures in
+    let e = c .before .clause-part .ensures .0 in
     let l = ap length e in
     let h = c .if1 .taken in
     e ∙ sym (take-all 4 _ (omega arith))
 
 returns-2 : tie.Need-returns-2
 unfolding headAt
-returns-2 c = ap (take 4) (c .before .before .clause-part .ensures)
+returns-2 c = ap (take 4) (c .before .before .clause-part .ensures .0)
 
 pub head-spec : {M : Type 1} → statement M
 head-spec =

@@ -5,7 +5,7 @@ use Rattle.parts.specs.Shapes.{stripAt}
 
 returns : tie.Need-returns
 unfolding stripAt
-returns c = cc
+returns c = (cc, refl)
 
 pub begin-spec : {M : Type 1} → statement M
 begin-spec =

@@ -7,7 +7,7 @@ use lib.Dec.{eqb}
 
 returns : tie.Need-returns
 unfolding stripAt
-returns c = cc
+returns c = (cc, refl)
 
 pub ends-spec : {M : Type 1} → statement M
 ends-spec =

@@ -7,7 +7,7 @@ use Rattle.filling.proofs.claims.filled.Tie as tie
 
 returns : tie.Need-returns
 unfolding filledAt
-returns c = ap (λ (e : Ends). e .pos) (c .expect-filled .ensures)
+returns c = ap (λ (e : Ends). e .pos) (rw (c .before .item-depth .ensures) at (c .stands .ensures))
 
 pub filled-spec : {M : Type 1} → statement M
-filled-spec = tie.close (tie.spec (λ c κs. search needs) returns)
+filled-spec = tie.close (tie.spec (λ c κs. tt) (λ c κs. tt) returns)

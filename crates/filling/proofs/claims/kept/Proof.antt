@@ -7,7 +7,7 @@ use Rattle.filling.proofs.claims.kept.Tie as tie
 
 returns : tie.Need-returns
 unfolding keptAt stripAt
-returns c = rw (c .before .word .ensures) at (c .expect-filled .ensures)
+returns c = rw (c .before .item-depth .ensures, c .before .before .word .ensures .0) at (c .stands .ensures)
 
 pub kept-spec : {M : Type 1} → statement M
-kept-spec = tie.close (tie.spec (λ c. refl) (λ c κs. tt) (λ c κs. search needs) returns)
+kept-spec = tie.close (tie.spec (λ c. refl) (λ c κs. tt) (λ c κs. tt) (λ c κs. tt) returns)

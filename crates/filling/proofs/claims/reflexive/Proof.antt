@@ -6,7 +6,7 @@ use Rattle.parts.specs.Shapes.{stripAt}
 
 returns : tie.Need-returns
 unfolding reflexiveAt linkedAt stripAt
-returns c = rw (c .word3 .ensures, c .before .before .filled2 .ensures, c .before .before .before .word2 .ensures, c .before .before .before .before .before .before .filled .ensures, c .before .before .before .before .before .before .before .before .word .ensures, c .before .before .before .before .before .before .before .before .before .before .begin .ensures)
+returns c = (rw (c .word3 .ensures .0, c .before .before .filled2 .ensures, c .before .before .before .word2 .ensures .0, c .before .before .before .before .before .before .filled .ensures, c .before .before .before .before .before .before .before .before .word .ensures .0, c .before .before .before .before .before .before .before .before .before .before .begin .ensures .0), (refl, refl))
 
 pub reflexive-spec : {M : Type 1} → statement M
 reflexive-spec =

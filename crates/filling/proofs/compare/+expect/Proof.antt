@@ -58,25 +58,25 @@ expect-returns-2 t c =
     let a = c .before .before .before .before .before .before .before .before .before .before .before .before .before .before .before .before .args in
     let x = call (now (a .a)) (now (a .first)) (now (a .b)) (now (a .second)) (now (a .line)) (now (a .rest)) (a .w) in
     let r = land (matching-shortens (fill-shrinks (plain (x .line) (x .others)) (x .depth - 1))) (x .q) (x .t) (x .from) (x .pos) (rw (c .before .before .before .before .unbroken .ensures, no-hole (x .line) (x .others) (x .others) (length (x .q) - length (x .q)) (omega arith)) at (c .before .before .expect .ensures)) in
-    c .reach .ensures ∙ hole-ends x (omega arith) (c .before .before .before .before .before .before .if2 .taken) (c .before .skip .ensures) r
+    c .reach .ensures ∙ hole-ends x (omega arith) (c .before .before .before .before .before .before .if2 .taken) (c .before .skip .ensures .0) r
 
 expect-returns-3 : (t : ℕ) → expect-lts.Need-returns-3 (callees t) (expect-at t) expect.Post expect-Inv-loop expect-μ-loop
 expect-returns-3 t c =
     let a = c .before .before .before .before .before .before .before .before .before .before .before .before .before .before .args in
     let x = call (now (a .a)) (now (a .first)) (now (a .b)) (now (a .second)) (now (a .line)) (now (a .rest)) (a .w) in
-    rw (at-variable x (omega arith) (c .before .before .before .before .if2 .left) (c .before .before .word .ensures) (omega arith)) (c .expect-entry .ensures)
+    rw (at-variable x (omega arith) (c .before .before .before .before .if2 .left) (c .before .before .word .ensures .0) (omega arith)) (c .expect-entry .ensures)
 
 expect-returns-4 : (t : ℕ) → expect-lts.Need-returns-4 (callees t) (expect-at t) expect.Post expect-Inv-loop expect-μ-loop
 expect-returns-4 t c =
     let a = c .before .before .before .before .before .before .before .before .before .before .before .before .before .before .before .before .before .before .before .args in
     let x = call (now (a .a)) (now (a .first)) (now (a .b)) (now (a .second)) (now (a .line)) (now (a .rest)) (a .w) in
-    ends-bad (x .p) (x .t) (c .differ2 .ensures) (no-second x (omega arith) (c .before .before .before .before .before .before .before .before .before .if2 .left) (omega (arith, c .before .before .before .before .before .before .before .word .ensures)) (c .before .before .before .before .word2 .ensures) (c .before .before .word3 .ensures) (omega arith))
+    ends-bad (x .p) (x .t) (c .differ2 .ensures) (no-second x (omega arith) (c .before .before .before .before .before .before .before .before .before .if2 .left) (omega (arith, c .before .before .before .before .before .before .before .word .ensures .0)) (c .before .before .before .before .word2 .ensures .0) (c .before .before .word3 .ensures .0) (omega arith))
 
 expect-loop-holds : (t : ℕ) → expect-lts.Need-loop-holds (callees t) (expect-at t) expect.Post expect-Inv-loop expect-μ-loop
 expect-loop-holds t c =
     let a = c .before .before .before .before .before .before .before .before .before .before .before .before .before .before .before .before .before .before .args in
     let x = call (now (a .a)) (now (a .first)) (now (a .b)) (now (a .second)) (now (a .line)) (now (a .rest)) (a .w) in
-    (omega arith, enters x (omega arith) (c .before .before .before .before .before .before .before .before .if2 .left) (omega (arith, c .before .before .before .before .before .before .word .ensures)) (c .before .before .before .word2 .ensures) (c .before .word3 .ensures) (omega arith))
+    (omega arith, enters x (omega arith) (c .before .before .before .before .before .before .before .before .if2 .left) (omega (arith, c .before .before .before .before .before .before .word .ensures .0)) (c .before .before .before .word2 .ensures .0) (c .before .word3 .ensures .0) (omega arith))
 
 expect-expect-requires-2 : (t : ℕ) → expect-lts.Need-expect-requires-2 (callees t) (expect-at t) expect.Post expect-Inv-loop expect-μ-loop
 expect-expect-requires-2 t c κs = (omega (arith, c .before .before .before .before .before .before .before .before .before .before .before .before .before .before .before .before .before .before .before .before .before .before .before .before .pre .0, ap (λ (w : Walk). w .depth) (c .nested .ensures)), tt)

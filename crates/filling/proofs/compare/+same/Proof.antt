@@ -49,25 +49,25 @@ same-returns-2 : (t : ℕ) → same-lts.Need-returns-2 (callees t) (same-at t) s
 same-returns-2 t c =
     let a = c .before .before .before .before .before .before .before .before .before .before .args in
     let x : Call = record { p = now (a .a); at = a .x; line = now (a .line); starts = now (a .first); q = now (a .b); pos = a .y; others = now (a .second); depth = a .depth } in
-    rw (at-first x (omega arith) (c .before .before .word .ensures) (omega arith)) (c .same-entry .ensures)
+    rw (at-first x (omega arith) (c .before .before .word .ensures .0) (omega arith)) (c .same-entry .ensures)
 
 same-returns-3 : (t : ℕ) → same-lts.Need-returns-3 (callees t) (same-at t) same.Post same-Inv-loop same-μ-loop
 same-returns-3 t c =
     let a = c .before .before .before .before .before .before .before .before .before .before .before .before .before .args in
     let x : Call = record { p = now (a .a); at = a .x; line = now (a .line); starts = now (a .first); q = now (a .b); pos = a .y; others = now (a .second); depth = a .depth } in
-    ends-turned (x .p) (x .q) _ (c .same-entry2 .ensures) ∙ ap (endsOf (x .p) (x .q)) (sym (at-second x (omega arith) (omega (arith, c .before .before .before .before .before .word .ensures)) (c .before .before .word2 .ensures) (omega arith)))
+    ends-turned (x .p) (x .q) _ (c .same-entry2 .ensures) ∙ ap (endsOf (x .p) (x .q)) (sym (at-second x (omega arith) (omega (arith, c .before .before .before .before .before .word .ensures .0)) (c .before .before .word2 .ensures .0) (omega arith)))
 
 same-returns-4 : (t : ℕ) → same-lts.Need-returns-4 (callees t) (same-at t) same.Post same-Inv-loop same-μ-loop
 same-returns-4 t c =
     let a = c .before .before .before .before .before .before .before .before .before .before .before .before .before .before .before .before .before .before .args in
     let x : Call = record { p = now (a .a); at = a .x; line = now (a .line); starts = now (a .first); q = now (a .b); pos = a .y; others = now (a .second); depth = a .depth } in
-    ends-bad (x .p) (x .q) (c .differ2 .ensures) (no-second x (omega arith) (omega (arith, c .before .before .before .before .before .before .before .before .before .before .word .ensures)) (omega (arith, c .before .before .before .before .before .before .before .word2 .ensures)) (c .before .before .before .before .word3 .ensures) (c .before .before .word4 .ensures) (omega arith))
+    ends-bad (x .p) (x .q) (c .differ2 .ensures) (no-second x (omega arith) (omega (arith, c .before .before .before .before .before .before .before .before .before .before .word .ensures .0)) (omega (arith, c .before .before .before .before .before .before .before .word2 .ensures .0)) (c .before .before .before .before .word3 .ensures .0) (c .before .before .word4 .ensures .0) (omega arith))
 
 same-loop-holds : (t : ℕ) → same-lts.Need-loop-holds (callees t) (same-at t) same.Post same-Inv-loop same-μ-loop
 same-loop-holds t c =
     let a = c .before .before .before .before .before .before .before .before .before .before .before .before .before .before .before .before .before .args in
     let x : Call = record { p = now (a .a); at = a .x; line = now (a .line); starts = now (a .first); q = now (a .b); pos = a .y; others = now (a .second); depth = a .depth } in
-    (omega arith, enters x (omega arith) (omega (arith, c .before .before .before .before .before .before .before .before .before .word .ensures)) (omega (arith, c .before .before .before .before .before .before .word2 .ensures)) (c .before .before .before .word3 .ensures) (c .before .word4 .ensures) (omega arith))
+    (omega arith, enters x (omega arith) (omega (arith, c .before .before .before .before .before .before .before .before .before .word .ensures .0)) (omega (arith, c .before .before .before .before .before .before .word2 .ensures .0)) (c .before .before .before .word3 .ensures .0) (c .before .word4 .ensures .0) (omega arith))
 
 same-same-requires : (t : ℕ) → same-lts.Need-same-requires (callees t) (same-at t) same.Post same-Inv-loop same-μ-loop
 same-same-requires t c κs = (omega (arith, c .before .before .before .before .before .before .before .before .before .before .before .before .before .before .before .before .before .before .before .before .before .pre .0), tt)

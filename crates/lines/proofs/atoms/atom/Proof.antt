@@ -5,7 +5,7 @@ use Rattle.lines.proofs.atoms.atom.Statement.{statement}
 use Rattle.lines.proofs.atoms.atom.Tie as tie
 
 returns : tie.Need-returns
-returns c = let a = (c .before .before .before .before .before .args) in let s = now (a .s) in let table = now (a .table) in rw (← atom-shape table s (a .at) (a .depth) ((c .before .word) .ensures)) ((c .shape) .ensures)
+returns c = let a = (c .before .before .before .before .before .args) in let s = now (a .s) in let table = now (a .table) in rw (← atom-shape table s (a .at) (a .depth) ((c .before .word) .ensures .0)) ((c .shape) .ensures)
 
 pub atom-spec : {M : Type 1} → statement M
 atom-spec =

@@ -5,7 +5,7 @@ use Rattle.lines.proofs.atoms.object.Statement.{statement}
 use Rattle.lines.proofs.atoms.object.Tie as tie
 
 returns : tie.Need-returns
-returns c = let a = (c .before .before .before .before .before .before .before .before .before .args) in let s = now (a .s) in let table = now (a .table) in (c .settle) .ensures ∙ object-sum table s (a .at) (a .depth) ((c .before .before .before .before .before .word) .ensures) ((c .before .before .before .before .term) .ensures) ((c .before .before .word2) .ensures) ((c .before .atom-of) .ensures)
+returns c = let a = (c .before .before .before .before .before .before .before .before .before .args) in let s = now (a .s) in let table = now (a .table) in (c .settle) .ensures ∙ object-sum table s (a .at) (a .depth) ((c .before .before .before .before .before .word) .ensures .0) ((c .before .before .before .before .term) .ensures) ((c .before .before .word2) .ensures .0) ((c .before .atom-of) .ensures)
 
 pub object-spec : {M : Type 1} → statement M
 object-spec =

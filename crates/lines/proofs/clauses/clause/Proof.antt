@@ -5,7 +5,7 @@ use Rattle.lines.proofs.clauses.clause.Statement.{statement}
 use Rattle.lines.proofs.clauses.clause.Tie as tie
 
 returns : tie.Need-returns
-returns c = let a = (c .before .before .before .before .before .args) in let s = now (a .s) in let table = now (a .table) in rw (← clause-word (a .depth) s (a .at) ((c .before .word) .ensures)) ((c .literals) .ensures)
+returns c = let a = (c .before .before .before .before .before .args) in let s = now (a .s) in let table = now (a .table) in rw (← clause-word (a .depth) s (a .at) ((c .before .word) .ensures .0)) ((c .literals) .ensures)
 
 pub clause-spec : {M : Type 1} → statement M
 clause-spec =

@@ -5,7 +5,7 @@ use Rattle.lines.proofs.clauses.list.Statement.{statement}
 use Rattle.lines.proofs.clauses.list.Tie as tie
 
 returns : tie.Need-returns
-returns c = let a = (c .before .before .before .before .before .args) in let s = now (a .s) in let table = now (a .table) in rw (← let-word (a .depth) s (a .at) ((c .before .word) .ensures)) ((c .terms) .ensures)
+returns c = let a = (c .before .before .before .before .before .args) in let s = now (a .s) in let table = now (a .table) in rw (← let-word (a .depth) s (a .at) ((c .before .word) .ensures .0)) ((c .terms) .ensures)
 
 pub list-spec : {M : Type 1} → statement M
 list-spec =

@@ -10,7 +10,7 @@ use Rattle.lines.proofs.forms.spaced.Tie as tie
 
 returns : tie.Need-returns
 unfolding readSpaced readNumber
-returns c = let a = (c .before .before .before .before .args) in let s = now (a .s) in (c .number) .ensures ∙ ap (numberAt s) (handed s (a .at) readNumber (word-stops 32 []) ((c .before .word) .ensures) refl)
+returns c = let a = (c .before .before .before .before .args) in let s = now (a .s) in (c .number) .ensures .0 ∙ ap (numberAt s) (handed s (a .at) readNumber (word-stops 32 []) ((c .before .word) .ensures .0) refl)
 
 pub spaced-spec : {M : Type 1} → statement M
 spaced-spec =

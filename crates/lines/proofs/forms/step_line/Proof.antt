@@ -9,10 +9,10 @@ use Rattle.lines.proofs.forms.step_line.Statement.{statement}
 use Rattle.lines.proofs.forms.step_line.Tie as tie
 
 returns : tie.Need-returns
-returns c = let a = (c .before .before .before .before .before .before .before .before .before .before .before .before .before .before .before .before .before .before .before .before .before .before .args) in let s = now (a .s) in let table = now (a .table) in (c .short) .ensures ∙ ap (shortLine NoForm 0 0 0) ((c .before .none) .ensures) ∙ line-broken table s (step-track table s (a .at) (a .depth) ((c .before .before .before .before .before .before .before .before .before .before .before .before .before .before .before .before .before .before .before .rule) .ensures) ((c .before .before .before .before .before .before .before .before .before .before .before .before .before .before .before .before .before .before .spaced) .ensures) ((c .before .before .before .before .before .before .before .before .before .before .before .before .before .before .before .before .before .spaced2) .ensures) ((c .before .before .before .before .before .before .before .before .before .before .before .before .before .before .before .before .spaced3) .ensures) ((c .before .before .before .before .before .before .before .before .before .before .before .before .before .before .before .spaced4) .ensures) ((c .before .before .before .before .before .before .before .before .before .before .before .before .before .before .spaced5) .ensures) ((c .before .before .before .before .before .before .before .before .before .before .before .before .word) .ensures) ((c .before .before .before .before .before .before .before .before .before .before .before .list) .ensures) ((c .before .before .before .before .before .before .before .before .before .word2) .ensures) ((c .before .before .before .before .before .before .before .before .list2) .ensures) ((c .before .before .before .before .before .before .word3) .ensures) ((c .before .before .before .before .before .clause) .ensures) ((c .before .before .before .word4) .ensures) refl) ((c .before .before .if1) .taken)
+returns c = let a = (c .before .before .before .before .before .before .before .before .before .before .before .before .before .before .before .before .before .before .before .before .before .before .args) in let s = now (a .s) in let table = now (a .table) in (c .short) .ensures ∙ ap (shortLine NoForm 0 0 0) ((c .before .none) .ensures) ∙ line-broken table s (step-track table s (a .at) (a .depth) ((c .before .before .before .before .before .before .before .before .before .before .before .before .before .before .before .before .before .before .before .rule) .ensures .0) ((c .before .before .before .before .before .before .before .before .before .before .before .before .before .before .before .before .before .before .spaced) .ensures) ((c .before .before .before .before .before .before .before .before .before .before .before .before .before .before .before .before .before .spaced2) .ensures) ((c .before .before .before .before .before .before .before .before .before .before .before .before .before .before .before .before .spaced3) .ensures) ((c .before .before .before .before .before .before .before .before .before .before .before .before .before .before .before .spaced4) .ensures) ((c .before .before .before .before .before .before .before .before .before .before .before .before .before .before .spaced5) .ensures) ((c .before .before .before .before .before .before .before .before .before .before .before .before .word) .ensures .0) ((c .before .before .before .before .before .before .before .before .before .before .before .list) .ensures) ((c .before .before .before .before .before .before .before .before .before .word2) .ensures .0) ((c .before .before .before .before .before .before .before .before .list2) .ensures) ((c .before .before .before .before .before .before .word3) .ensures .0) ((c .before .before .before .before .before .clause) .ensures) ((c .before .before .before .word4) .ensures .0) refl) ((c .before .before .if1) .taken)
 
 returns-2 : tie.Need-returns-2
-returns-2 c = let a = (c .before .before .before .before .before .before .before .before .before .before .before .before .before .before .before .before .before .before .before .before .before .before .before .before .before .args) in let s = now (a .s) in let table = now (a .table) in line-whole table s (step-track table s (a .at) (a .depth) ((c .before .before .before .before .before .before .before .before .before .before .before .before .before .before .before .before .before .before .before .before .before .before .rule) .ensures) ((c .before .before .before .before .before .before .before .before .before .before .before .before .before .before .before .before .before .before .before .before .before .spaced) .ensures) ((c .before .before .before .before .before .before .before .before .before .before .before .before .before .before .before .before .before .before .before .before .spaced2) .ensures) ((c .before .before .before .before .before .before .before .before .before .before .before .before .before .before .before .before .before .before .before .spaced3) .ensures) ((c .before .before .before .before .before .before .before .before .before .before .before .before .before .before .before .before .before .before .spaced4) .ensures) ((c .before .before .before .before .before .before .before .before .before .before .before .before .before .before .before .before .before .spaced5) .ensures) ((c .before .before .before .before .before .before .before .before .before .before .before .before .before .before .before .word) .ensures) ((c .before .before .before .before .before .before .before .before .before .before .before .before .before .before .list) .ensures) ((c .before .before .before .before .before .before .before .before .before .before .before .before .word2) .ensures) ((c .before .before .before .before .before .before .before .before .before .before .before .list2) .ensures) ((c .before .before .before .before .before .before .before .before .before .word3) .ensures) ((c .before .before .before .before .before .before .before .before .clause) .ensures) ((c .before .before .before .before .before .before .word4) .ensures) ((c .join2) .ensures ∙ ap (joined _) ((c .before .join) .ensures))) (omega (arith, (c .before .before .before .before .before .if1) .left))
+returns-2 c = let a = (c .before .before .before .before .before .before .before .before .before .before .before .before .before .before .before .before .before .before .before .before .before .before .before .before .before .args) in let s = now (a .s) in let table = now (a .table) in line-whole table s (step-track table s (a .at) (a .depth) ((c .before .before .before .before .before .before .before .before .before .before .before .before .before .before .before .before .before .before .before .before .before .before .rule) .ensures .0) ((c .before .before .before .before .before .before .before .before .before .before .before .before .before .before .before .before .before .before .before .before .before .spaced) .ensures) ((c .before .before .before .before .before .before .before .before .before .before .before .before .before .before .before .before .before .before .before .before .spaced2) .ensures) ((c .before .before .before .before .before .before .before .before .before .before .before .before .before .before .before .before .before .before .before .spaced3) .ensures) ((c .before .before .before .before .before .before .before .before .before .before .before .before .before .before .before .before .before .before .spaced4) .ensures) ((c .before .before .before .before .before .before .before .before .before .before .before .before .before .before .before .before .before .spaced5) .ensures) ((c .before .before .before .before .before .before .before .before .before .before .before .before .before .before .before .word) .ensures .0) ((c .before .before .before .before .before .before .before .before .before .before .before .before .before .before .list) .ensures) ((c .before .before .before .before .before .before .before .before .before .before .before .before .word2) .ensures .0) ((c .before .before .before .before .before .before .before .before .before .before .before .list2) .ensures) ((c .before .before .before .before .before .before .before .before .before .word3) .ensures .0) ((c .before .before .before .before .before .before .before .before .clause) .ensures) ((c .before .before .before .before .before .before .word4) .ensures .0) ((c .join2) .ensures ∙ ap (joined _) ((c .before .join) .ensures))) (omega (arith, (c .before .before .before .before .before .if1) .left))
 
 pub step-line-spec : {M : Type 1} → statement M
 step-line-spec =

@@ -7,10 +7,10 @@ use Rattle.lines.proofs.forms.sym_line.Statement.{statement}
 use Rattle.lines.proofs.forms.sym_line.Tie as tie
 
 returns : tie.Need-returns
-returns c = let a = (c .before .before .before .before .before .before .before .before .args) in let s = now (a .s) in let table = now (a .table) in (c .short) .ensures ∙ ap (shortLine Sym _ 0 0) ((c .before .none) .ensures) ∙ line-whole table s (sym-track table s (a .at) ((c .before .before .before .before .before .number) .ensures) ((c .before .before .before .word) .ensures)) ((c .before .before .if1) .taken)
+returns c = let a = (c .before .before .before .before .before .before .before .before .args) in let s = now (a .s) in let table = now (a .table) in (c .short) .ensures ∙ ap (shortLine Sym _ 0 0) ((c .before .none) .ensures) ∙ line-whole table s (sym-track table s (a .at) ((c .before .before .before .before .before .number) .ensures .0) ((c .before .before .before .word) .ensures .0)) ((c .before .before .if1) .taken)
 
 returns-2 : tie.Need-returns-2
-returns-2 c = let a = (c .before .before .before .before .before .before .before .before .args) in let s = now (a .s) in let table = now (a .table) in (c .short2) .ensures ∙ ap (shortLine NoForm 0 0 0) ((c .before .none2) .ensures) ∙ line-broken table s (sym-track table s (a .at) ((c .before .before .before .before .before .number) .ensures) ((c .before .before .before .word) .ensures)) ((c .before .before .if1) .left)
+returns-2 c = let a = (c .before .before .before .before .before .before .before .before .args) in let s = now (a .s) in let table = now (a .table) in (c .short2) .ensures ∙ ap (shortLine NoForm 0 0 0) ((c .before .none2) .ensures) ∙ line-broken table s (sym-track table s (a .at) ((c .before .before .before .before .before .number) .ensures .0) ((c .before .before .before .word) .ensures .0)) ((c .before .before .if1) .left)
 
 pub sym-line-spec : {M : Type 1} → statement M
 sym-line-spec =

@@ -58,19 +58,19 @@ terms-returns-3 : (t : ℕ) → terms-lts.Need-returns-3 (callees t) (terms-at t
 terms-returns-3 t c = let a = c .before .before .before .before .before .before .before .before .before .before .args in let l = c .before .before .before .before .before .before .loop in let T = term-list (a .depth) (now (a .table)) in let s = now (a .s) in let i = l .i in let g = spaced T s (a .at) (l .inv) (byte-here s 32 i (omega arith) (c .before .before .before .if1 .left)) in c .settle3 .ensures ∙ over T s (a .at) (advance T s (a .at) empty g (omega arith) (no-term (now (a .table)) s (i + 1) empty (c .before .before .if3 .taken)) refl .0) _ (omega arith)
 
 terms-add-number : (t : ℕ) → terms-lts.Need-add-number (callees t) (terms-at t) terms.Post terms-Inv-loop terms-μ-loop
-terms-add-number t c = omega (arith, letter-tells _ _ (c .before .letter .ensures) 102 (omega arith) .0 (c .if4 .taken) .0)
+terms-add-number t c = omega (arith, letter-tells _ _ (c .before .letter .ensures .0) 102 (omega arith) .0 (c .if4 .taken) .0)
 
 terms-add-i : (t : ℕ) → terms-lts.Need-add-i (callees t) (terms-at t) terms.Post terms-Inv-loop terms-μ-loop
-terms-add-i t c = omega (arith, closes-tells _ _ (c .before .closes .ensures) .0 (c .if5 .taken) .0)
+terms-add-i t c = omega (arith, closes-tells _ _ (c .before .closes .ensures .0) .0 (c .if5 .taken) .0)
 
 terms-terms-requires : (t : ℕ) → terms-lts.Need-terms-requires (callees t) (terms-at t) terms.Post terms-Inv-loop terms-μ-loop
 terms-terms-requires t c κs = (omega (arith, c .before .before .before .before .before .before .before .before .before .before .before .before .before .pre .0), tt)
 
 terms-returns-4 : (t : ℕ) → terms-lts.Need-returns-4 (callees t) (terms-at t) terms.Post terms-Inv-loop terms-μ-loop
-terms-returns-4 t c = let a = c .before .before .before .before .before .before .before .before .before .before .before .before .before .args in let l = c .before .before .before .before .before .before .before .before .before .loop in let T = term-list (a .depth) (now (a .table)) in let s = now (a .s) in let i = l .i in let g = spaced T s (a .at) (l .inv) (byte-here s 32 i (omega arith) (c .before .before .before .before .before .before .if1 .left)) in let w = letter-tells _ _ (c .before .before .before .before .letter .ensures) in c .settle4 .ensures ∙ over T s (a .at) (advance T s (a .at) empty g (omega arith) (other-term (now (a .table)) s (i + 1) empty (a .depth) (w 118 (omega arith) .1 (c .before .before .if6 .taken)) (w 102 (omega arith) .1 (c .before .before .before .if4 .left))) refl .0) _ (omega arith)
+terms-returns-4 t c = let a = c .before .before .before .before .before .before .before .before .before .before .before .before .before .args in let l = c .before .before .before .before .before .before .before .before .before .loop in let T = term-list (a .depth) (now (a .table)) in let s = now (a .s) in let i = l .i in let g = spaced T s (a .at) (l .inv) (byte-here s 32 i (omega arith) (c .before .before .before .before .before .before .if1 .left)) in let w = letter-tells _ _ (c .before .before .before .before .letter .ensures .0) in c .settle4 .ensures ∙ over T s (a .at) (advance T s (a .at) empty g (omega arith) (other-term (now (a .table)) s (i + 1) empty (a .depth) (w 118 (omega arith) .1 (c .before .before .if6 .taken)) (w 102 (omega arith) .1 (c .before .before .before .if4 .left))) refl .0) _ (omega arith)
 
 terms-add-variable : (t : ℕ) → terms-lts.Need-add-variable (callees t) (terms-at t) terms.Post terms-Inv-loop terms-μ-loop
-terms-add-variable t c = omega (arith, letter-tells _ _ (c .before .before .letter .ensures) 118 (omega arith) .0 (c .if6 .left) .0)
+terms-add-variable t c = omega (arith, letter-tells _ _ (c .before .before .letter .ensures .0) 118 (omega arith) .0 (c .if6 .left) .0)
 
 terms-add-count : (t : ℕ) → terms-lts.Need-add-count (callees t) (terms-at t) terms.Post terms-Inv-loop terms-μ-loop
 terms-add-count t c = let a = c .before .before .before .before .before .before .before .before .before .before .args in let l = c .before .before .before .before .before .before .loop in let T = term-list (a .depth) (now (a .table)) in let s = now (a .s) in let i = l .i in let g = spaced T s (a .at) (l .inv) (byte-here s 32 i (omega arith) (c .before .before .before .if1 .left)) in omega (arith, within T s (a .at) g (omega arith))
@@ -81,11 +81,11 @@ terms-turned t c =
     let a = c .before .before .before .before .before .before .before .before .before .before .args in let l = c .before .before .before .before .before .before .loop in let T = term-list (a .depth) (now (a .table)) in let s = now (a .s) in let i = l .i in let g = spaced T s (a .at) (l .inv) (byte-here s 32 i (omega arith) (c .before .before .before .if1 .left)) in
     let u = now (a .table) in
     let z = c .before .before .if3 .left in
-    let w = letter-tells _ _ (c .before .letter .ensures) in
+    let w = letter-tells _ _ (c .before .letter .ensures .0) in
     ⊎-elim
-    (λ k. let f = k .1 .result in let e = closes-tells _ _ (k .2 .ensures) .0 (k .3 .taken) in rw (k .7, k .8) (advance T s (a .at) (appliedMeasure u (f .value) empty) g (omega arith) (applied-term u s (i + 1) (a .depth) z (w 118 (omega arith) .1 (λ q. omega (arith, q, k .0 .taken))) (w 102 (omega arith) .0 (k .0 .taken) .1) (k .1 .ensures) (no-parts u s (f .end) (a .depth - 1) (e .1) (e .0))) (k .6 .ensures ∙ ap (joined (l .m)) (k .5 .ensures ∙ ap (appliedMeasure u (f .value)) (k .4 .ensures)))))
+    (λ k. let f = k .1 .result in let e = closes-tells _ _ (k .2 .ensures .0) .0 (k .3 .taken) in rw (k .7, k .8) (advance T s (a .at) (appliedMeasure u (f .value) empty) g (omega arith) (applied-term u s (i + 1) (a .depth) z (w 118 (omega arith) .1 (λ q. omega (arith, q, k .0 .taken))) (w 102 (omega arith) .0 (k .0 .taken) .1) (k .1 .ensures .0) (no-parts u s (f .end) (a .depth - 1) (e .1) (e .0))) (k .6 .ensures ∙ ap (joined (l .m)) (k .5 .ensures ∙ ap (appliedMeasure u (f .value)) (k .4 .ensures)))))
     (⊎-elim
-    (λ k. let f = k .1 .result in rw (k .7, k .8) (advance T s (a .at) _ g (omega arith) (applied-term u s (i + 1) (a .depth) z (w 118 (omega arith) .1 (λ q. omega (arith, q, k .0 .taken))) (w 102 (omega arith) .0 (k .0 .taken) .1) (k .1 .ensures) (k .4 .ensures)) (k .6 .ensures ∙ ap (joined (l .m)) (k .5 .ensures))))
+    (λ k. let f = k .1 .result in rw (k .7, k .8) (advance T s (a .at) _ g (omega arith) (applied-term u s (i + 1) (a .depth) z (w 118 (omega arith) .1 (λ q. omega (arith, q, k .0 .taken))) (w 102 (omega arith) .0 (k .0 .taken) .1) (k .1 .ensures .0) (k .4 .ensures)) (k .6 .ensures ∙ ap (joined (l .m)) (k .5 .ensures))))
     (λ k. rw (k .4, k .5) (turned T s (a .at) g (omega arith) (k .2 .ensures ∙ ap (summary (termMeasure u) s) (sym (variable-term u s (i + 1) (a .depth) z (w 118 (omega arith) .0 (k .1 .left) .1) (w 118 (omega arith) .0 (k .1 .left) .0)))) (k .3 .ensures))))
     (c .if4 .came)
 

@@ -10,16 +10,16 @@ use Rattle.lines.proofs.terms.variable.Statement.{statement}
 use Rattle.lines.proofs.terms.variable.Tie as tie
 
 returns : tie.Need-returns
-returns c = let a = c .before .before .before .before .before .before .before .args in let s = now (a .s) in c .settle .ensures ∙ settled-past s _ _ ∙ variable-sum (now (a .table)) s (a .at) (c .before .before .before .before .number .ensures) (closes-tells _ _ (c .before .before .before .closes .ensures) .1 (not-true _ (c .before .before .if1 .taken)))
+returns c = let a = c .before .before .before .before .before .before .before .args in let s = now (a .s) in c .settle .ensures ∙ settled-past s _ _ ∙ variable-sum (now (a .table)) s (a .at) (c .before .before .before .before .number .ensures .0) (closes-tells _ _ (c .before .before .before .closes .ensures .0) .1 (not-true _ (c .before .before .if1 .taken)))
 
 add-settle-2 : tie.Need-add-settle-2
-add-settle-2 c = omega (arith, number-small _ _ (c .before .before .before .number .ensures))
+add-settle-2 c = omega (arith, number-small _ _ (c .before .before .before .number .ensures .0))
 
 add-settle-3 : tie.Need-add-settle-3
-add-settle-3 c = omega (arith, closes-tells _ _ (c .before .before .closes .ensures) .0 (not-false _ (c .before .if1 .left)) .0)
+add-settle-3 c = omega (arith, closes-tells _ _ (c .before .before .closes .ensures .0) .0 (not-false _ (c .before .if1 .left)) .0)
 
 returns-2 : tie.Need-returns-2
-returns-2 c = let a = c .before .before .before .before .before .before .before .args in c .settle2 .ensures ∙ variable-sum (now (a .table)) (now (a .s)) (a .at) (c .before .before .before .before .number .ensures) (closes-tells _ _ (c .before .before .before .closes .ensures) .0 (not-false _ (c .before .before .if1 .left)) .1)
+returns-2 c = let a = c .before .before .before .before .before .before .before .args in c .settle2 .ensures ∙ variable-sum (now (a .table)) (now (a .s)) (a .at) (c .before .before .before .before .number .ensures .0) (closes-tells _ _ (c .before .before .before .closes .ensures .0) .0 (not-false _ (c .before .before .if1 .left)) .1)
 
 pub variable-spec : {M : Type 1} → statement M
 variable-spec =

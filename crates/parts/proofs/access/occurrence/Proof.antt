@@ -17,13 +17,13 @@ abbrev μ-loop : tie.MeasureT-loop
 μ-loop s at k i₀ left₀ level₀ i left level = length s - i
 
 loop-holds : tie.Need-loop-holds Inv-loop μ-loop
-loop-holds c = let a = c .before .before .before .args in (omega arith, occurrence-from (now (a .s)) (a .at) (a .k) (c .word .ensures))
+loop-holds c = let a = c .before .before .before .args in (omega arith, occurrence-from (now (a .s)) (a .at) (a .k) (c .word .ensures .0))
 
 returns : tie.Need-returns Inv-loop μ-loop
 returns c =
     let a = c .before .before .before .before .before .before .before .before .before .before .args in
     let l = c .before .before .before .before .before .before .loop in
-    end-at (now (a .s)) (omega arith) (seek-here (now (a .s)) (l .i) (l .left) (l .level) (omega arith) (omega arith) (sym (c .before .if2 .taken) ∙ c .before .before .term .ensures) (omega arith)) ∙ sym (l .inv .1)
+    (end-at (now (a .s)) (omega arith) (seek-here (now (a .s)) (l .i) (l .left) (l .level) (omega arith) (omega arith) (sym (c .before .if2 .taken) ∙ c .before .before .term .ensures) (omega arith)) ∙ sym (l .inv .1), refl)
 
 loop-again : tie.Need-loop-again Inv-loop μ-loop
 loop-again c =
@@ -41,7 +41,7 @@ returns-2 : tie.Need-returns-2 Inv-loop μ-loop
 returns-2 c =
     let a = c .before .before .before .before .before .before .before .before .before .args in
     let l = c .before .before .before .before .before .loop in
-    end-bad (now (a .s)) (seek-over (now (a .s)) (l .i) (l .left) (l .level) (omega arith) (omega arith) (omega arith) (omega arith)) ∙ sym (l .inv .1)
+    (end-bad (now (a .s)) (seek-over (now (a .s)) (l .i) (l .left) (l .level) (omega arith) (omega arith) (omega arith) (omega arith)) ∙ sym (l .inv .1), refl)
 
 loop-again-3 : tie.Need-loop-again-3 Inv-loop μ-loop
 loop-again-3 c =
@@ -59,7 +59,7 @@ returns-3 : tie.Need-returns-3 Inv-loop μ-loop
 returns-3 c =
     let a = c .before .before .before .before .before .args in
     let l = c .before .loop in
-    end-bad (now (a .s)) (seek-none (now (a .s)) (l .i) (l .left) (l .level) (omega arith)) ∙ sym (l .inv .1)
+    (end-bad (now (a .s)) (seek-none (now (a .s)) (l .i) (l .left) (l .level) (omega arith)) ∙ sym (l .inv .1), refl)
 
 pub occurrence-spec : {M : Type 1} → statement M
 occurrence-spec =

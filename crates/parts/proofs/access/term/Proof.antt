@@ -5,10 +5,10 @@ use Rattle.parts.proofs.access.term.Statement.{statement}
 use Rattle.parts.proofs.access.term.Tie as tie
 
 returns : tie.Need-returns
-returns c = let a = c .before .before .before .before .args in term-variable (now (a .s)) (a .at) (c .before .word .ensures) (c .if1 .taken)
+returns c = let a = c .before .before .before .before .args in term-variable (now (a .s)) (a .at) (c .before .word .ensures .0) (c .if1 .taken)
 
 returns-2 : tie.Need-returns-2
-returns-2 c = let a = c .before .before .before .before .before .before .args in term-applied (now (a .s)) (a .at) (c .before .before .before .word .ensures) (c .before .before .if1 .left) (c .word2 .ensures)
+returns-2 c = let a = c .before .before .before .before .before .before .args in term-applied (now (a .s)) (a .at) (c .before .before .before .word .ensures .0) (c .before .before .if1 .left) (c .word2 .ensures .0)
 
 pub term-spec : {M : Type 1} → statement M
 term-spec =

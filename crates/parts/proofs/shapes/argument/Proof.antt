@@ -1,10 +1,11 @@
+use mathlib.Core.Path.{refl}
 use Rattle.parts.proofs.shapes.argument.Statement.{statement}
 use Rattle.parts.proofs.shapes.argument.Tie as tie
 use Rattle.parts.specs.Shapes.{argumentAt}
 
 returns : tie.Need-returns
 unfolding argumentAt
-returns c = cc
+returns c = (cc, refl)
 
 pub argument-spec : {M : Type 1} → statement M
 argument-spec =

@@ -1,10 +1,11 @@
+use mathlib.Core.Path.{refl}
 use Rattle.parts.proofs.shapes.atom.Statement.{statement}
 use Rattle.parts.proofs.shapes.atom.Tie as tie
 use Rattle.parts.specs.Shapes.{atomAt}
 
 returns : tie.Need-returns
 unfolding atomAt
-returns c = cc
+returns c = (cc, refl)
 
 pub atom-spec : {M : Type 1} → statement M
 atom-spec =

@@ -6,7 +6,7 @@ use Rattle.parts.proofs.shapes.literal.Tie as tie
 
 returns : tie.Need-returns
 unfolding placeAt stripAt
-returns c = rw (c .item .ensures, c .before .word .ensures)
+returns c = (rw (c .item .ensures, c .before .word .ensures .0), refl)
 
 pub literal-spec : {M : Type 1} → statement M
 literal-spec =

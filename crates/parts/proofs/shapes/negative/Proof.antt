@@ -5,7 +5,7 @@ use Rattle.parts.specs.Shapes.{stripAt, negativeAt}
 
 returns : tie.Need-returns
 unfolding negativeAt stripAt
-returns c = cc
+returns c = (cc, refl)
 
 pub negative-spec : {M : Type 1} → statement M
 negative-spec =

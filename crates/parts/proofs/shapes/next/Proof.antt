@@ -5,7 +5,7 @@ use Rattle.parts.proofs.shapes.next.Tie as tie
 
 returns : tie.Need-returns
 unfolding nextAt skipAt stripAt
-returns c = cc
+returns c = (cc, refl)
 
 pub next-spec : {M : Type 1} → statement M
 next-spec =

@@ -1,14 +1,14 @@
-use Rattle.parts.specs.Shapes.{orElse}
+use Rattle.parts.specs.Shapes.{orPlace}
 use borrow.Author.Tests.{le-leb, lt-leb}
 use Rattle.parts.proofs.shapes.or_else.Statement.{statement}
 use Rattle.parts.proofs.shapes.or_else.Tie as tie
 
 returns : tie.Need-returns
-unfolding orElse
+unfolding orPlace
 returns c = rw (le-leb _ _ (c .if1 .taken))
 
 returns-2 : tie.Need-returns-2
-unfolding orElse
+unfolding orPlace
 returns-2 c = rw (lt-leb _ _ (c .if1 .left))
 
 pub or-else-spec : {M : Type 1} → statement M

@@ -5,7 +5,7 @@ use Rattle.parts.proofs.shapes.positive.Tie as tie
 
 returns : tie.Need-returns
 unfolding positiveAt stripAt
-returns c = cc
+returns c = (cc, refl)
 
 pub positive-spec : {M : Type 1} → statement M
 positive-spec =

@@ -1,10 +1,11 @@
+use mathlib.Core.Path.{refl}
 use Rattle.parts.specs.Shapes.{resultAt}
 use Rattle.parts.proofs.shapes.result.Statement.{statement}
 use Rattle.parts.proofs.shapes.result.Tie as tie
 
 returns : tie.Need-returns
 unfolding resultAt
-returns c = cc
+returns c = (cc, refl)
 
 pub result-spec : {M : Type 1} → statement M
 result-spec =

@@ -5,7 +5,7 @@ use Rattle.parts.proofs.shapes.same_arrow.Tie as tie
 
 returns : tie.Need-returns
 unfolding sameArrowAt
-returns c = cc
+returns c = (cc, (refl, refl))
 
 pub same-arrow-spec : {M : Type 1} → statement M
 same-arrow-spec =

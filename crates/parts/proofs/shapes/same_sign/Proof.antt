@@ -1,10 +1,11 @@
+use mathlib.Core.Path.{refl}
 use Rattle.parts.proofs.shapes.same_sign.Statement.{statement}
 use Rattle.parts.proofs.shapes.same_sign.Tie as tie
 use Rattle.parts.specs.Shapes.{sameSignAt}
 
 returns : tie.Need-returns
 unfolding sameSignAt
-returns c = cc
+returns c = (cc, (refl, refl))
 
 pub same-sign-spec : {M : Type 1} → statement M
 same-sign-spec =

@@ -5,7 +5,7 @@ use Rattle.parts.proofs.shapes.within.Tie as tie
 
 returns : tie.Need-returns
 unfolding within
-returns c = refl
+returns c = (refl, refl)
 
 pub within-spec : {M : Type 1} → statement M
 within-spec =

@@ -17,13 +17,13 @@ loop-holds : tie.Need-loop-holds Inv-loop μ-loop
 loop-holds c = (omega arith, refl)
 
 returns : tie.Need-returns Inv-loop μ-loop
-returns c = let l = (c .before .before .before .loop) in sym (l .inv .1 ∙ constant-here _ (l .i) (omega arith) ((c .if1) .taken))
+returns c = let l = (c .before .before .before .loop) in (sym (l .inv .1 ∙ constant-here _ (l .i) (omega arith) ((c .if1) .taken)), refl)
 
 loop-again : tie.Need-loop-again Inv-loop μ-loop
 loop-again c = let l = (c .before .before .before .loop) in (omega arith, l .inv .1 ∙ constant-later _ (l .i) (omega arith) ((c .if1) .left))
 
 returns-2 : tie.Need-returns-2 Inv-loop μ-loop
-returns-2 c = let l = (c .before .loop) in sym (l .inv .1 ∙ constant-none _ (l .i) (omega arith))
+returns-2 c = let l = (c .before .loop) in (sym (l .inv .1 ∙ constant-none _ (l .i) (omega arith)), refl)
 
 pub has-constant-spec : {M : Type 1} → statement M
 has-constant-spec =

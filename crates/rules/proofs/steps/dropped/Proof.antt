@@ -4,7 +4,7 @@ use Rattle.rules.proofs.steps.dropped.Tie as tie
 
 returns : tie.Need-returns
 unfolding droppedAt
-returns c = rw (c .choose2 .ensures, c .before .choose .ensures, c .before .before .within .ensures, c .before .before .before .positive .ensures)
+returns c = rw (c .choose2 .ensures, c .before .choose .ensures, c .before .before .within .ensures .0, c .before .before .before .positive .ensures .0)
 
 pub dropped-spec : {M : Type 1} → statement M
 dropped-spec =

@@ -3,8 +3,8 @@ use lib.ListN.{drop}
 use mathlib.Core.Path.{refl}
 use native.Mathlib.Omega.{arith}
 use Rattle.logic.specs.declared.Sign.the-variants.{Positive, Negative}
-use Rattle.text.specs.Read.{readSign}
-use Rattle.text.specs.Words.{signWord, signs}
+use Rattle.text.specs.Read.{readSign, signs}
+use Rattle.text.specs.Words.{signWord}
 use Rattle.scan.specs.Tables.{wordAt}
 use Rattle.scan.proofs.Choices.{table-law}
 use Rattle.scan.proofs.tables.sign.Statement.{statement}
@@ -16,7 +16,7 @@ array-copy-out-sign c = let a = c .before .before .before .args in let s = now (
 
 returns : tie.Need-returns
 unfolding wordAt readSign
-returns c = let a = c .before .before .before .before .args in let s = now (a .s) in let t = table-law signWord Negative Positive s (drop (a .at) s) signs (c .before .which .ensures) in λ i. record { end = t .1 i; sign = t .2 i }
+returns c = (let a = c .before .before .before .before .args in let s = now (a .s) in let t = table-law signWord Negative Positive s (drop (a .at) s) signs (c .before .which .ensures) in λ i. record { end = t .1 i; sign = t .2 i }, refl)
 
 pub sign-spec : {M : Type 1} → statement M
 sign-spec = tie.close (tie.spec (λ c. refl) (λ c κs. tt) array-copy-out-sign returns)

@@ -25,7 +25,7 @@ returns c =
     let a = c .before .before .before .before .before .before .before .before .before .args in
     let l = c .before .before .before .before .before .before .loop in
     let s = now (a .s) in
-    sym (l .inv .3 ∙ at-space s (drop (a .at) s) (now (a .table)) (l .number) (l .from) (l .i) (omega arith) (omega arith) ∙ found-here s _ _ (c .before .word .ensures) (omega arith))
+    sym (l .inv .3 ∙ at-space s (drop (a .at) s) (now (a .table)) (l .number) (l .from) (l .i) (omega arith) (omega arith) ∙ found-here s _ _ (c .before .word .ensures .0) (omega arith))
 
 loop-again : tie.Need-loop-again Inv-loop μ-loop
 loop-again c =
@@ -35,7 +35,7 @@ loop-again c =
     let bs = drop (a .at) s in
     let z : l .i + 1 - (l .i + 1) ≡ 0 = omega arith in
     ⊎-elim
-    (λ k. (omega (arith, k .5), omega arith, omega (arith, k .4), rw (k .4, k .5, z) (l .inv .3 ∙ at-space s bs (now (a .table)) (l .number) (l .from) (l .i) (omega arith) (k .0 .taken) ∙ found-later s (l .number) _ _ (k .2 .ensures) (k .3 .left))))
+    (λ k. (omega (arith, k .5), omega arith, omega (arith, k .4), rw (k .4, k .5, z) (l .inv .3 ∙ at-space s bs (now (a .table)) (l .number) (l .from) (l .i) (omega arith) (k .0 .taken) ∙ found-later s (l .number) _ _ (k .2 .ensures .0) (k .3 .left))))
     (λ k. (omega (arith, k .2), omega arith, omega (arith, k .1), rw (k .1, k .2) (l .inv .3 ∙ at-letter s bs (now (a .table)) (l .number) (l .from) (l .i) (omega arith) (omega arith) (k .0 .left))))
     (c .if1 .came)
 

@@ -33,4 +33,4 @@ pub lines-spec : {M : Type 1} → statement M
 lines-spec =
     tie.close (tie.spec
     Inv-loop μ-loop loop-holds (λ c. omega arith) (λ c. omega arith) (λ c. omega arith) (λ c. omega arith) loop-again
-    (λ c. omega arith) (λ c. omega arith) returns returns-2)
+    (λ c. omega arith) returns returns-2)

@@ -1,21 +1,18 @@
-use denote.Ref.{now}
-use lib.ListN.{length}
-use native.Mathlib.Omega.{arith}
 use borrow.Author.Tests.{lt-ltb, le-ltb}
-use Rattle.text.specs.Figures.{office}
-use Rattle.text.specs.Size.{tooLarge}
+use mathlib.Core.Path.{refl}
+use Rattle.text.specs.Split.{tooLarge}
 use Rattle.scan.proofs.texts.too_large.Statement.{statement}
 use Rattle.scan.proofs.texts.too_large.Tie as tie
 
 returns : tie.Need-returns
-unfolding tooLarge office
-returns c = rw (lt-ltb 65535 (length (now (c .before .before .args .text))) (omega arith))
+unfolding tooLarge
+returns c = (rw (lt-ltb _ _ (c .if1 .taken)), refl)
 
 returns-2 : tie.Need-returns-2
-unfolding tooLarge office
-returns-2 c = rw (le-ltb 65535 (length (now (c .before .before .before .args .text))) (omega arith), (c .lines) .ensures)
+unfolding tooLarge
+returns-2 c = (rw (le-ltb _ _ (c .before .before .if1 .left), c .before .lines .ensures), refl)
 
 pub too-large-spec : {M : Type 1} → statement M
 too-large-spec =
     tie.close (tie.spec
-    returns (λ c κs. omega arith) returns-2)
+    returns (λ c κs. tt) returns-2)

@@ -4,7 +4,7 @@ use Rattle.table.proofs.rows.rewriting.Tie as tie
 
 returns : tie.Need-returns
 unfolding replaced
-returns c = rw (c .both .ensures, c .before .within2 .ensures, c .before .before .within .ensures, c .before .before .before .choose2 .ensures, c .before .before .before .before .choose .ensures, c .before .before .before .before .before .next .ensures, c .before .before .before .before .before .before .link .ensures, c .before .before .before .before .before .before .before .part .ensures)
+returns c = rw (c .both .ensures, c .before .within2 .ensures .0, c .before .before .within .ensures .0, c .before .before .before .choose2 .ensures, c .before .before .before .before .choose .ensures, c .before .before .before .before .before .next .ensures .0, c .before .before .before .before .before .before .link .ensures .0, c .before .before .before .before .before .before .before .part .ensures)
 
 pub rewriting-spec : {M : Type 1} → statement M
 rewriting-spec =

@@ -1,4 +1,4 @@
-use Rattle.logic.specs.Judge.{below}
+use Rattle.logic.specs.StepChecks.{below}
 use Rattle.table.proofs.uses.below.Statement.{statement}
 use Rattle.table.proofs.uses.below.Tie as tie
 

@@ -1,4 +1,4 @@
-use Rattle.logic.specs.Judge.{zeroIfUnused}
+use Rattle.logic.specs.StepChecks.{zeroIfUnused}
 use Rattle.table.proofs.uses.zero_if_unused.Statement.{statement}
 use Rattle.table.proofs.uses.zero_if_unused.Tie as tie
 

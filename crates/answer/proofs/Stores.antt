@@ -1,0 +1,54 @@
+-- Parts stored one after another.
+use Prim.Native.Nat.{ℕ, suc, _+_, _≤_, _<_}
+use mathlib.Core.Path.{_≡_, refl, sym, ap, _∙_}
+use mathlib.Core.List.{List, [], _∷_, _++_, append-assoc}
+use native.Mathlib.Nat.{add-zero, zero-add, add-suc, suc-add, le-of-lt}
+use native.Mathlib.Numerals.{add-one}
+use native.Mathlib.Omega.{arith}
+use lib.ListN.{length, take, drop, set, getD, length-append}
+use lib.Seq.{sets, sets-eq, take-suc, length-take-le}
+use Rattle.io.specs.Counts.{Counts}
+use Rattle.verdict.specs.declared.Verdict.{Verdict}
+use Rattle.answer.specs.Line.{numeral, spaced, lineOf, written}
+
+-- m is l with a in it from i on, and j is where a ends.
+abbrev pub Stored : List ℕ → ℕ → List ℕ → List ℕ → ℕ → Type 0
+Stored l i a m j = (j ≡ i + length a) × (m ≡ sets l i a)
+
+-- Two parts in a row are stored as one.
+sets-append : (a b l : List ℕ) (i : ℕ) → sets (sets l i a) (i + length a) b ≡ sets l i (a ++ b)
+sets-append [] b l i = rw add-zero
+sets-append (x ∷ a) b l i = rw (add-suc i (length a), ← suc-add i (length a)) (sets-append a b (set l i x) (suc i))
+
+pub both-stored : {m n : List ℕ} {j k : ℕ} (l : List ℕ) (i : ℕ) (a b : List ℕ)
+    → Stored l i a m j → Stored m j b n k → Stored l i (a ++ b) n k
+both-stored l i a b (e, p) (f, q) =
+    (omega (arith, length-append a b), q ∙ rw (p, e) (sets-append a b l i))
+
+-- One more byte of a part.
+pub sets-more : (part l : List ℕ) (at i : ℕ) → i < length part
+    → set (sets l at (take i part)) (at + i) (getD part i 0) ≡ sets l at (take (i + 1) part)
+sets-more part l at i h =
+    rw (add-one i, take-suc part i 0 h, ← sets-append (take i part) (getD part i 0 ∷ []) l at, length-take-le i part (le-of-lt h))
+
+-- A line's first number may be taken for a part of its word.
+pub line-cons : (word : List ℕ) (n : ℕ) (ns : List ℕ) → lineOf (word ++ (32 ∷ numeral n)) ns ≡ lineOf word (n ∷ ns)
+unfolding lineOf spaced
+line-cons word n ns = simp append-assoc
+
+-- The line end after what is stored at the start.
+pub ended : {m n : List ℕ} {j : ℕ} (l word : List ℕ) → Stored l 0 word m j → n ≡ sets m j (10 ∷ [])
+    → (j + 1 ≡ length (lineOf word [])) × (n ≡ sets l 0 (lineOf word []))
+unfolding lineOf spaced
+ended l word s e = rw zero-add at (both-stored l 0 word (10 ∷ []) s (refl, e))
+
+-- What is stored at the start stands before the rest.
+pub at-start : {m : List ℕ} {r : ℕ} (a l : List ℕ) → r ≤ length l
+    → (r ≡ length a) × (m ≡ sets l 0 a) → (r ≡ length a) × (m ≡ a ++ drop r l)
+at-start a l h (e, p) = (e, p ∙ sets-eq a l 0 (omega arith) ∙ rw (zero-add, e))
+
+-- What the caller of `line` learns: the line lies within the buffer.
+pub line-counts : {n : ℕ} {m : List ℕ} (v : Verdict) (rest : List ℕ) → n ≡ length (written v) → m ≡ written v ++ rest → Counts n m
+line-counts {n} {m} v rest e p =
+    let within : n ≤ length m = omega (arith, simp length-append at (ap length p)) in
+    (within, sym (length-take-le n m within))
