@@ -9,7 +9,7 @@ use lib.ListN.{length, take, drop, set, getD, length-append}
 use lib.Seq.{sets, sets-eq, take-suc, length-take-le}
 use Rattle.io.specs.Counts.{Counts}
 use Rattle.verdict.specs.declared.Verdict.{Verdict}
-use Rattle.answer.specs.Line.{numeral, spaced, lineOf, written}
+use Rattle.answer.specs.Line.{numeral, spaced, wordLine, written}
 
 -- m is l with a in it from i on, and j is where a ends.
 abbrev pub Stored : List ℕ → ℕ → List ℕ → List ℕ → ℕ → Type 0
@@ -32,14 +32,14 @@ sets-more part l at i h =
     rw (add-one i, take-suc part i 0 h, ← sets-append (take i part) (getD part i 0 ∷ []) l at, length-take-le i part (le-of-lt h))
 
 -- A line's first number may be taken for a part of its word.
-pub line-cons : (word : List ℕ) (n : ℕ) (ns : List ℕ) → lineOf (word ++ (32 ∷ numeral n)) ns ≡ lineOf word (n ∷ ns)
-unfolding lineOf spaced
+pub line-cons : (word : List ℕ) (n : ℕ) (ns : List ℕ) → wordLine (word ++ (32 ∷ numeral n)) ns ≡ wordLine word (n ∷ ns)
+unfolding wordLine spaced
 line-cons word n ns = simp append-assoc
 
 -- The line end after what is stored at the start.
 pub ended : {m n : List ℕ} {j : ℕ} (l word : List ℕ) → Stored l 0 word m j → n ≡ sets m j (10 ∷ [])
-    → (j + 1 ≡ length (lineOf word [])) × (n ≡ sets l 0 (lineOf word []))
-unfolding lineOf spaced
+    → (j + 1 ≡ length (wordLine word [])) × (n ≡ sets l 0 (wordLine word []))
+unfolding wordLine spaced
 ended l word s e = rw zero-add at (both-stored l 0 word (10 ∷ []) s (refl, e))
 
 -- What is stored at the start stands before the rest.

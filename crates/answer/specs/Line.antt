@@ -16,9 +16,9 @@ spaced [] = []
 spaced (n ∷ ns) = (32 ∷ numeral n) ++ spaced ns
 
 -- V28: a word, numbers and the line end.
-unfoldable pub lineOf : List ℕ → List ℕ → List ℕ
-lineOf word ns = word ++ (spaced ns ++ lineEnd ∷ [])
+unfoldable pub wordLine : List ℕ → List ℕ → List ℕ
+wordLine word ns = word ++ (spaced ns ++ lineEnd ∷ [])
 
 -- V27: the line of a verdict.
 unfoldable pub written : Verdict → List ℕ
-written v = lineOf (bytes (verdictWord v)) (numbers v)
+written v = wordLine (bytes (verdictWord v)) (numbers v)

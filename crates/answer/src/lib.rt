@@ -4,7 +4,7 @@ ghost use mathlib.Core.Path.{_≡_};
 ghost use mathlib.Core.List.{[], _∷_, _++_};
 ghost use lib.ListN.{length, drop};
 ghost use lib.Seq.{sets};
-ghost use Rattle.answer.specs.Line.{numeral, lineOf, written};
+ghost use Rattle.answer.specs.Line.{numeral, wordLine, written};
 use verdict::Verdict;
 
 // Puts part into out from at on.
@@ -37,8 +37,8 @@ fn put_number(n: usize, out: &mut [u8], at: usize) -> usize
 fn put_one(word: &[u8], a: usize, out: &mut [u8]) -> usize
     requires { ⌜ length (now word) + 22 ≤ length (now out) ⌝ }
     ensures { λ r. ⌜ r ≤ length (now (word .entry)) + 22 ⌝ }
-    ensures { λ r. ⌜ r ≡ length (lineOf (now (word .entry)) (a ∷ [])) ⌝ }
-    ensures { λ _. ⌜ now (out .exit) ≡ sets (now (out .entry)) 0 (lineOf (now (word .entry)) (a ∷ [])) ⌝ }
+    ensures { λ r. ⌜ r ≡ length (wordLine (now (word .entry)) (a ∷ [])) ⌝ }
+    ensures { λ _. ⌜ now (out .exit) ≡ sets (now (out .entry)) 0 (wordLine (now (word .entry)) (a ∷ [])) ⌝ }
 {
     put(word, out, 0);
     let after_a = put_number(a, out, word.len());
@@ -50,8 +50,8 @@ fn put_one(word: &[u8], a: usize, out: &mut [u8]) -> usize
 fn put_two(word: &[u8], a: usize, b: usize, out: &mut [u8]) -> usize
     requires { ⌜ length (now word) + 43 ≤ length (now out) ⌝ }
     ensures { λ r. ⌜ r ≤ length (now (word .entry)) + 43 ⌝ }
-    ensures { λ r. ⌜ r ≡ length (lineOf (now (word .entry)) (a ∷ (b ∷ []))) ⌝ }
-    ensures { λ _. ⌜ now (out .exit) ≡ sets (now (out .entry)) 0 (lineOf (now (word .entry)) (a ∷ (b ∷ []))) ⌝ }
+    ensures { λ r. ⌜ r ≡ length (wordLine (now (word .entry)) (a ∷ (b ∷ []))) ⌝ }
+    ensures { λ _. ⌜ now (out .exit) ≡ sets (now (out .entry)) 0 (wordLine (now (word .entry)) (a ∷ (b ∷ []))) ⌝ }
 {
     put(word, out, 0);
     let after_a = put_number(a, out, word.len());
