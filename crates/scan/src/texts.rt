@@ -4,13 +4,16 @@ ghost use Prim.Native.Nat.{_+_, _≤_};
 ghost use mathlib.Core.Path.{_≡_};
 ghost use mathlib.Core.Bool.{true};
 ghost use lib.ListN.{length, drop};
-ghost use Rattle.text.specs.Size.{lineCount, lineLength, lineEndAt};
+ghost use Rattle.text.specs.Size.{lineCount, lineEndCount, lineLength, lineEndAt};
 ghost use Rattle.text.specs.Split.{tooLarge};
 
 const LINE_END: u8 = b'\n';
 
 // Bytes that are looked at together.
 const STRIDE: usize = 16;
+
+// Bytes whose line ends are counted together: their number fits in a byte.
+const BLOCK: usize = 128;
 
 // Whether no line end stands among the 16 bytes at `at`.
 fn clear(text: &[u8], at: usize) -> bool
@@ -65,23 +68,67 @@ pub fn line_end(text: &[u8], at: usize) -> usize
     n
 }
 
+// How many line ends are among the 128 bytes at `at`.
+fn block_ends(text: &[u8], at: usize) -> usize
+    requires { ⌜ at + 128 ≤ length (now text) ⌝ }
+    ensures { λ r. ⌜ lineEndCount (drop at (now (text .entry))) ≡ r + lineEndCount (drop (at + 128) (now (text .entry))) ⌝ }
+{
+    let mut ends: u8 = 0;
+    let mut k = 0;
+    while k < BLOCK {
+        if text[at + k] == LINE_END {
+            ends += 1;
+        }
+        k += 1;
+    }
+    ends as usize
+}
+
+// How many line ends are among the bytes from `at` on, byte by byte.
+fn rest_ends(text: &[u8], at: usize) -> usize
+    requires { ⌜ at ≤ length (now text) ⌝ }
+    ensures { λ r. ⌜ r ≡ lineEndCount (drop at (now (text .entry))) ⌝ }
+{
+    let n = text.len();
+    let mut ends = 0;
+    let mut i = at;
+    while i < n {
+        if text[i] == LINE_END {
+            ends += 1;
+        }
+        i += 1;
+    }
+    ends
+}
+
+// How many line ends are in the text, by blocks of 128 bytes.
+fn line_ends(text: &[u8]) -> usize
+    ensures { λ r. ⌜ r ≡ lineEndCount (now (text .entry)) ⌝ }
+{
+    let n = text.len();
+    let mut ends = 0;
+    let mut i = 0;
+    while n - i >= BLOCK {
+        ends += block_ends(text, i);
+        i += BLOCK;
+    }
+    ends + rest_ends(text, i)
+}
+
 // The number of lines: the line ends, and one more for bytes after the last of them.
 fn lines(text: &[u8]) -> usize
     ensures { λ r. ⌜ r ≡ lineCount (now (text .entry)) ⌝ }
 {
-    let mut count = 0;
-    let mut begun = false;
-    let mut i = 0;
-    while i < text.len() {
-        if text[i] == LINE_END {
-            count += 1;
-            begun = false;
-        } else {
-            begun = true;
-        }
-        i += 1;
+    let n = text.len();
+    if n == 0 {
+        return 0;
     }
-    if begun { count + 1 } else { count }
+    let ends = line_ends(text);
+    if text[n - 1] == LINE_END {
+        ends
+    } else {
+        ends + 1
+    }
 }
 
 // Check 1, by the figures given.

@@ -12,44 +12,76 @@ use lib.Seq.{take-all}
 use native.Mathlib.Nat.{suc-add}
 use Rattle.text.specs.Words.{lineEnd}
 use Rattle.text.specs.Split.{Raw, ended, unended, push, split}
-use Rattle.text.specs.Size.{lineLength, lineEndAt, endedAt}
+use Rattle.text.specs.Size.{lineLength, lineEndAt, endedAt, lineEndCount, lineCount}
 use Rattle.text.proofs.Tests.{T-and, onTest}
 use Rattle.text.proofs.Plain.{unbroken}
 use Rattle.text.proofs.Places.{at-byte, past}
 use Rattle.text.proofs.Lines.{split-line, split-end}
 
--- The lines of the bytes left; some bytes of the first may have been passed.
-unfoldable pub countFrom : Bool → List ℕ → ℕ
-countFrom true bs = length (push 0 (split bs))
-countFrom false bs = length (split bs)
-
-push-length : (a b : ℕ) (lines : List Raw) → length (push a (push b lines)) ≡ length (push a lines)
+-- A byte at the front of a line is no line more, and bytes have a line.
+push-some : (b : ℕ) (lines : List Raw) → 0 < length (push b lines)
 unfolding push
-push-length a b [] = refl
-push-length a b (ended w ∷ lines) = refl
-push-length a b (unended w ∷ lines) = refl
+push-some b [] = omega arith
+push-some b (ended w ∷ lines) = omega arith
+push-some b (unended w ∷ lines) = omega arith
 
-push-same : (a b : ℕ) (lines : List Raw) → length (push a lines) ≡ length (push b lines)
+push-length : (b : ℕ) (lines : List Raw) → 0 < length lines → length (push b lines) ≡ length lines
 unfolding push
-push-same a b [] = refl
-push-same a b (ended w ∷ lines) = refl
-push-same a b (unended w ∷ lines) = refl
+push-length b [] h = absurd (omega arith)
+push-length b (ended w ∷ lines) h = refl
+push-length b (unended w ∷ lines) h = refl
+
+split-some : (b : ℕ) (bs : List ℕ) → 0 < length (split (b ∷ bs))
+unfolding split
+split-some b bs = onTest (λ x. 0 < length x) (eqb b lineEnd) {x = ended [] ∷ split bs} (λ _. omega arith) (λ _. push-some b (split bs))
+
+-- The lines of a text are as many as its line ends, and one more where its last byte is not one.
+count-front : (t : Bool) (b ends more : ℕ) (lines : List Raw) → 0 < length lines → length lines ≡ ends + more → length (cond t (ended [] ∷ lines) (push b lines)) ≡ cond t (suc ends) ends + more
+count-front true b ends more lines h e = omega arith
+count-front false b ends more lines h e = push-length b lines h ∙ e
+
+count-last : (b : ℕ) (bs : List ℕ) → lineCount (b ∷ bs) ≡ lineEndCount (b ∷ bs) + cond (eqb (getD (b ∷ bs) (length bs) 0) lineEnd) 0 1
+unfolding split push lineEndCount
+count-last b [] = go (eqb b lineEnd)
+  where
+    go : (t : Bool) → length (cond t (ended [] ∷ []) (unended (b ∷ []) ∷ [])) ≡ cond t 1 0 + cond t 0 1
+    go true = refl
+    go false = refl
+count-last b (c ∷ bs) = count-front (eqb b lineEnd) b (lineEndCount (c ∷ bs)) _ (split (c ∷ bs)) (split-some c bs) (count-last c bs)
+
+pub count-empty : (text : List ℕ) → length text ≡ 0 → lineCount text ≡ 0
+unfolding split
+count-empty [] h = refl
+count-empty (b ∷ bs) h = absurd (omega arith)
+
+count-ends : (text : List ℕ) → 0 < length text → lineCount text ≡ lineEndCount text + cond (eqb (getD text (length text - 1) 0) lineEnd) 0 1
+count-ends [] h = absurd (omega arith)
+count-ends (b ∷ bs) h = let z : suc (length bs) - 1 ≡ length bs = omega arith in rw z (count-last b bs)
+
+module _ (text : List ℕ) (h : 0 < length text) where
+  pub count-ended : getD text (length text - 1) 0 ≡ 10 → lineCount text ≡ lineEndCount text
+  count-ended e = omega (arith, rw (eq-eqb _ lineEnd e) at (count-ends text h))
+
+  pub count-unended : (getD text (length text - 1) 0 ≡ 10 → ⊥) → lineCount text ≡ lineEndCount text + 1
+  count-unended e = omega (arith, rw (ne-eqb _ lineEnd e) at (count-ends text h))
+
+pub ends-most : (bs : List ℕ) → lineEndCount bs ≤ length bs
+unfolding lineEndCount
+ends-most [] = omega arith
+ends-most (b ∷ bs) = onTest (λ n. n ≤ suc (length bs)) (eqb b lineEnd) {x = suc (lineEndCount bs)} {y = lineEndCount bs} (λ _. omega (arith, ends-most bs)) (λ _. omega (arith, ends-most bs))
 
 module _ (text : List ℕ) (i : ℕ) where
-  pub count-end : (begun : Bool) → i < length text → getD text i 0 ≡ 10 → countFrom begun (drop i text) ≡ suc (countFrom false (drop (i + 1) text))
-  unfolding countFrom split push
-  count-end true h e = rw (at-byte text i h, eq-eqb (getD text i 0) lineEnd e)
-  count-end false h e = rw (at-byte text i h, eq-eqb (getD text i 0) lineEnd e)
+  pub ends-here : i < length text → getD text i 0 ≡ 10 → lineEndCount (drop i text) ≡ suc (lineEndCount (drop (i + 1) text))
+  unfolding lineEndCount
+  ends-here h e = rw (at-byte text i h, eq-eqb (getD text i 0) lineEnd e)
 
-  pub count-byte : (begun : Bool) → i < length text → (getD text i 0 ≡ 10 → ⊥) → countFrom begun (drop i text) ≡ countFrom true (drop (i + 1) text)
-  unfolding countFrom split
-  count-byte true h e = rw (at-byte text i h, ne-eqb (getD text i 0) lineEnd e) (push-length 0 (getD text i 0) (split (drop (i + 1) text)))
-  count-byte false h e = rw (at-byte text i h, ne-eqb (getD text i 0) lineEnd e) (push-same (getD text i 0) 0 (split (drop (i + 1) text)))
+  pub ends-further : i < length text → (getD text i 0 ≡ 10 → ⊥) → lineEndCount (drop i text) ≡ lineEndCount (drop (i + 1) text)
+  unfolding lineEndCount
+  ends-further h e = rw (at-byte text i h, ne-eqb (getD text i 0) lineEnd e)
 
-  pub count-over : (begun : Bool) → length text ≤ i → countFrom begun (drop i text) ≡ cond begun 1 0
-  unfolding countFrom split push
-  count-over true h = rw (past text i h)
-  count-over false h = rw (past text i h)
+  pub ends-over : length text ≤ i → lineEndCount (drop i text) ≡ 0
+  unfolding lineEndCount
+  ends-over h = rw (past text i h)
 
   pub length-here : i < length text → getD text i 0 ≡ 10 → lineLength (drop i text) ≡ 0
   unfolding lineLength

@@ -1,5 +1,5 @@
 -- Nothing in this file has to be believed: the lines of a text are what `split` gives (Split), and `split-at` and `split-over`
--- (proofs/Sizes) find them by these places.
+-- (proofs/Sizes) find them by these places; `count-ended` and `count-unended` count them by the line ends.
 use Prim.Native.Nat.{ℕ, zero, suc, _+_}
 use mathlib.Core.Bool.{Bool, cond}
 use mathlib.Core.List.{List, [], _∷_}
@@ -23,6 +23,13 @@ lineEndAt text at = cond (ltb at (length text)) (at + lineLength (drop at text))
 -- that begins at a place is ended.
 unfoldable pub endedAt : List ℕ → ℕ → Bool
 endedAt text at = ltb (lineEndAt text at) (length text)
+
+-- How many line ends are among the bytes.
+unfoldable pub lineEndCount : List ℕ → ℕ
+lineEndCount [] = zero
+lineEndCount (b ∷ bs) =
+    let further = lineEndCount bs in
+    cond (eqb b lineEnd) (suc further) further
 
 abbrev pub lineCount : List ℕ → ℕ
 lineCount text = length (split text)

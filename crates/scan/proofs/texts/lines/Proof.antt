@@ -1,36 +1,22 @@
-use Prim.Native.Nat.{_≤_, _+_, _-_}
 use denote.Ref.{now}
-use lib.ListN.{length, drop}
-use mathlib.Core.Bool.{true, false, cond}
-use mathlib.Core.Logic.{⊎-elim}
-use mathlib.Core.Path.{_≡_, _∙_, ap}
 use native.Mathlib.Omega.{arith}
-use Rattle.text.specs.Size.{lineCount}
-use Rattle.text.proofs.Sizes.{countFrom, count-end, count-byte, count-over}
+use Rattle.text.proofs.Sizes.{count-empty, count-ended, count-unended, ends-most}
 use Rattle.scan.proofs.texts.lines.Statement.{statement}
 use Rattle.scan.proofs.texts.lines.Tie as tie
 
-abbrev Inv-loop : tie.InvT-loop
-Inv-loop text count₀ begun₀ i₀ count begun i = (i ≤ length text) × (count ≤ i) × (lineCount text ≡ count + countFrom begun (drop i text))
+returns : tie.Need-returns
+returns c = omega (arith, count-empty (now (c .before .before .args .text)) (c .if1 .taken))
 
-abbrev μ-loop : tie.MeasureT-loop
-μ-loop text count₀ begun₀ i₀ count begun i = length text - i
+add-result : tie.Need-add-result
+add-result c = omega (arith, c .before .before .line-ends .ensures, ends-most (now (c .before .before .before .before .before .args .text)))
 
-loop-holds : tie.Need-loop-holds Inv-loop μ-loop
-unfolding countFrom
-loop-holds c = (omega arith, omega arith, omega arith)
+returns-2 : tie.Need-returns-2
+returns-2 c = omega (arith, c .before .before .line-ends .ensures, count-ended (now (c .before .before .before .before .before .args .text)) (omega arith) (c .if2 .taken))
 
-loop-again : tie.Need-loop-again Inv-loop μ-loop
-loop-again c = let l = (c .before .before .before .loop) in let x = now ((c .before .before .before .before .args) .text) in ⊎-elim (λ w. (omega arith, omega arith, rw (w .2) (omega (arith, l .inv .2, count-end x (l .i) (l .begun) (omega arith) (w .0 .taken))))) (λ w. (omega arith, omega arith, rw (w .2) (omega (arith, l .inv .2, count-byte x (l .i) (l .begun) (omega arith) (w .0 .left))))) ((c .if1) .came)
-
-returns : tie.Need-returns Inv-loop μ-loop
-returns c = let l = (c .before .before .loop) in let x = now ((c .before .before .before .args) .text) in let b : l .begun ≡ true = (c .if2) .taken in omega (arith, l .inv .2, count-over x (l .i) (l .begun) (omega arith) ∙ ap (λ b. cond b 1 0) b)
-
-returns-2 : tie.Need-returns-2 Inv-loop μ-loop
-returns-2 c = let l = (c .before .before .loop) in let x = now ((c .before .before .before .args) .text) in let b : l .begun ≡ false = (c .if2) .left in omega (arith, l .inv .2, count-over x (l .i) (l .begun) (omega arith) ∙ ap (λ b. cond b 1 0) b)
+returns-3 : tie.Need-returns-3
+returns-3 c = omega (arith, c .before .before .line-ends .ensures, count-unended (now (c .before .before .before .before .before .args .text)) (omega arith) (c .if2 .left))
 
 pub lines-spec : {M : Type 1} → statement M
 lines-spec =
     tie.close (tie.spec
-    Inv-loop μ-loop loop-holds (λ c. omega arith) (λ c. omega arith) (λ c. omega arith) (λ c. omega arith) loop-again
-    (λ c. omega arith) returns returns-2)
+    returns (λ c κs. tt) (λ c. omega arith) (λ c. omega arith) add-result returns-2 returns-3)
