@@ -1,13 +1,14 @@
 -- The words of a table, tried one after the other.
-use Prim.Native.Nat.{ℕ, suc, _+_, _-_, _≤_, _<_}
+use Prim.Native.Nat.{ℕ, zero, suc, _+_, _-_, _≤_, _<_}
 use Prim.Native.String.{String}
-use mathlib.Core.Path.{_≡_, refl, _∙_, ap}
+use mathlib.Core.Path.{_≡_, refl}
+use mathlib.Core.Bool.{true, false}
 use mathlib.Core.List.{List, [], _∷_, _++_}
-use native.Mathlib.Numerals.{add-one}
 use native.Mathlib.Omega.{arith}
-use borrow.Author.Tests.{ne-eqb}
+use borrow.Author.Tests.{le-leb, lt-leb}
+use lib.Dec.{leb}
 use lib.ListN.{length, take, drop, getD, length-drop}
-use lib.Seq.{drop-cons, take-suc, getD-drop}
+use lib.Seq.{drop-drop}
 use Rattle.scan.specs.declared.tables.WordAt.{WordAt}
 use Rattle.text.specs.Read.{Parsed, bad, got, return, strip, skip, orElse, oneOf, each}
 use Rattle.text.specs.Places.{endOf, readOr}
@@ -24,19 +25,20 @@ unfolding endOf
 found-later s n later bad h l = refl
 found-later s n later (got u rest) h l = absurd (omega arith)
 
--- One byte of the table more: the end of a word, or a letter.
-module _ (s bs table : List ℕ) (n : ℕ) (from i : ℕ) (in-table : i < length table) where
-  pub at-space : getD table i 0 ≡ 32 → wordAt s bs n (take (i - from) (drop from table)) (drop i table) ≡ orLater s (strip (take (i - from) (drop from table)) bs) n (wordAt s bs (n + 1) [] (drop (i + 1) table))
+-- One word of the table more, or none.
+module _ (s bs table : List ℕ) (width n from : ℕ) (inside : from ≤ length table) where
+  pub one-word : (k : ℕ) → width ≤ length table - from → wordAt s bs width n (suc k) (drop from table) ≡ orLater s (strip (take width (drop from table)) bs) n (wordAt s bs width (n + 1) k (drop (from + width) table))
   unfolding wordAt
-  at-space e = rw (add-one i, drop-cons table i 0, e)
+  one-word k h =
+      let t : leb width (length (drop from table)) ≡ true = le-leb width _ (rw length-drop h) in
+      rw (t, drop-drop width from table)
 
-  pub at-letter : from ≤ i → (getD table i 0 ≡ 32 → ⊥) → wordAt s bs n (take (i - from) (drop from table)) (drop i table) ≡ wordAt s bs n (take (i + 1 - from) (drop from table)) (drop (i + 1) table)
+  pub no-word : (k : ℕ) → length table - from < width → wordAt s bs width n k (drop from table) ≡ record { end = length s + 1; number = n }
   unfolding wordAt
-  at-letter l e =
-      let k : i + 1 - from ≡ suc (i - from) = omega arith in
-      let m : i - from < length (drop from table) = rw length-drop (omega arith) in
-      let b : getD (drop from table) (i - from) 0 ≡ getD table i 0 = getD-drop from table (i - from) 0 ∙ ap (λ j. getD table j 0) (omega arith) in
-      rw (k, take-suc (drop from table) (i - from) 0 m, b, add-one i, drop-cons table i 0, ne-eqb (getD table i 0) 32 e)
+  no-word zero h = refl
+  no-word (suc k) h =
+      let t : leb width (length (drop from table)) ≡ false = lt-leb width _ (rw length-drop h) in
+      rw t
 
 -- A table of words, and what each stands for.
 module _ {A : Type 0} (word : A → String) (last d : A) (s bs : List ℕ) where
@@ -65,3 +67,20 @@ module _ {A : Type 0} (word : A → String) (last d : A) (s bs : List ℕ) where
       let (l, m, e, g) : Names 0 xs r (oneOf (each word return xs) bs) = rw h (names 0 xs) in
       let z : r .number - 0 ≡ r .number = omega arith in
       (omega arith, e, rw z at g)
+
+  -- The word of x is tried before the table: it stands there, or what stands there is of the table.
+  pub first-law : (x : A) (xs : List A) {e : ℕ} → e ≡ endOf s (skip (word x) bs) → e ≤ length s → (e ≡ endOf s (oneOf (each word return (x ∷ xs)) bs)) × (x ≡ readOr last (λ y. y) (oneOf (each word return (x ∷ xs)) bs))
+  unfolding oneOf endOf
+  first-law x xs {e} h l = go (skip (word x) bs) h
+    where
+      go : (p : Parsed (Unit {0})) → e ≡ endOf s p → (e ≡ endOf s (orElse p (return x) (oneOf (each word return xs)) bs)) × (x ≡ readOr last (λ y. y) (orElse p (return x) (oneOf (each word return xs)) bs))
+      go bad h = absurd (omega arith)
+      go (got u rest) h = (h, refl)
+
+  pub after-first : (x : A) (xs : List A) {e : ℕ} {r : WordAt} → e ≡ endOf s (skip (word x) bs) → length s < e → r ≡ chain 0 xs → (r .end ≡ endOf s (oneOf (each word return (x ∷ xs)) bs)) × (getD (xs ++ last ∷ []) (r .number) d ≡ readOr last (λ y. y) (oneOf (each word return (x ∷ xs)) bs))
+  unfolding oneOf endOf
+  after-first x xs {e} {r} h l c = go (skip (word x) bs) h
+    where
+      go : (p : Parsed (Unit {0})) → e ≡ endOf s p → (r .end ≡ endOf s (orElse p (return x) (oneOf (each word return xs)) bs)) × (getD (xs ++ last ∷ []) (r .number) d ≡ readOr last (λ y. y) (orElse p (return x) (oneOf (each word return xs)) bs))
+      go bad h = (table-law xs c .1, table-law xs c .2)
+      go (got u rest) h = absurd (omega arith)

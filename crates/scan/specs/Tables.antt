@@ -1,10 +1,10 @@
 -- Nothing here is to be believed: it mirrors code on bytes, and `check` promises the verdict of the definitions.
 -- The word of a table that stands at a place: its end, and which it is.
-use Prim.Native.Nat.{ℕ, _+_}
+use Prim.Native.Nat.{ℕ, zero, suc, _+_}
 use mathlib.Core.Bool.{cond}
-use mathlib.Core.List.{List, [], _∷_, _++_}
-use lib.Dec.{eqb}
-use lib.ListN.{length}
+use mathlib.Core.List.{List}
+use lib.Dec.{leb}
+use lib.ListN.{length, take, drop}
 use Rattle.logic.specs.declared.Sign.{Sign}
 use Rattle.logic.specs.declared.Sign.the-variants.{Negative}
 use Rattle.logic.specs.declared.Link.{Link}
@@ -47,10 +47,10 @@ abbrev pub orLater : List ℕ → Parsed (Unit {0}) → ℕ → WordAt → WordA
 orLater s bad n later = later
 orLater s (got u rest) n later = record { end = endOf s (got u rest); number = n }
 
--- The first word of a table that stands there. Each ends with a space; the bytes w of word n are passed.
-unfoldable pub wordAt : List ℕ → List ℕ → ℕ → List ℕ → List ℕ → WordAt
-wordAt s bs n w [] = record { end = length s + 1; number = n }
-wordAt s bs n w (b ∷ table) =
-    let later = wordAt s bs (n + 1) [] table in
-    let on = wordAt s bs n (w ++ b ∷ []) table in
-    cond (eqb b 32) (orLater s (strip w bs) n later) on
+-- The first word of a table that stands there. Each has `width` letters; n words are passed, and at most k are left.
+unfoldable pub wordAt : List ℕ → List ℕ → ℕ → ℕ → ℕ → List ℕ → WordAt
+wordAt s bs width n zero table = record { end = length s + 1; number = n }
+wordAt s bs width n (suc k) table =
+    let later = wordAt s bs width (n + 1) k (drop width table) in
+    let none : WordAt = record { end = length s + 1; number = n } in
+    cond (leb width (length table)) (orLater s (strip (take width table) bs) n later) none

@@ -1,12 +1,12 @@
-// The words of a table, one after the other: the first that stands at the place.
+// The words of a table, one after the other: the first that stands at the place. A longer or shorter one is tried before the others.
 use crate::words::word;
 use logic::Arrow;
 use logic::Link;
 use logic::Rule;
 use logic::Sign;
+ghost use Prim.Native.Nat.{_≤_};
 ghost use mathlib.Core.Path.{_≡_};
-ghost use lib.ListN.{drop};
-ghost use mathlib.Core.List.{[]};
+ghost use lib.ListN.{length, drop};
 ghost use Rattle.text.specs.Read.{readSign, readRule};
 ghost use Rattle.scan.specs.Tables.{readLinkWord, readArrowWord, linkAt, arrowAt, ruleAt, signAt, wordAt};
 
@@ -36,23 +36,22 @@ struct WordAt {
     number: usize,
 }
 
-// The words of the table end with a space each; the first that stands at the place.
-fn which(s: &[u8], at: usize, table: &[u8]) -> WordAt
-    ensures { λ r. ⌜ r ≡ wordAt (now (s .entry)) (drop at (now (s .entry))) 0 [] (now (table .entry)) ⌝ }
+// The words of the table have `width` letters each; the first that stands at the place.
+fn which(s: &[u8], at: usize, width: usize, table: &[u8]) -> WordAt
+    requires { ⌜ 1 ≤ width ⌝ }
+    ensures { λ r.
+        ⌜ r ≡ wordAt (now (s .entry)) (drop at (now (s .entry))) width 0 (length (now (table .entry))) (now (table .entry)) ⌝ }
 {
     let mut number = 0;
     let mut from = 0;
-    let mut i = 0;
-    while i < table.len() {
-        if table[i] == b' ' {
-            let end = word(s, at, &table[from..i]);
-            if end <= s.len() {
-                return WordAt { end, number };
-            }
-            number += 1;
-            from = i + 1;
+    while table.len() - from >= width {
+        let to = from + width;
+        let end = word(s, at, &table[from..to]);
+        if end <= s.len() {
+            return WordAt { end, number };
         }
-        i += 1;
+        number += 1;
+        from = to;
     }
     WordAt {
         end: s.len() + 1,
@@ -61,13 +60,20 @@ fn which(s: &[u8], at: usize, table: &[u8]) -> WordAt
 }
 
 // Where no word of a table stands, its last is named.
-const LINKS: [Link; 4] = [Link::Eq, Link::Mem, Link::Sub, Link::Sub];
+const LINKS: [Link; 3] = [Link::Mem, Link::Sub, Link::Sub];
 
 pub fn link(s: &[u8], at: usize) -> LinkAt
     ensures { λ r. ⌜ r ≡ linkAt (now (s .entry)) (readLinkWord (drop at (now (s .entry)))) ⌝ }
     ensures { λ _. ⌜ now (s .exit) ≡ now (s .entry) ⌝ }
 {
-    let w = which(s, at, b"eq mem sub ");
+    let first = word(s, at, b"eq");
+    if first <= s.len() {
+        return LinkAt {
+            end: first,
+            link: Link::Eq,
+        };
+    }
+    let w = which(s, at, 3, b"memsub");
     let n = w.number;
     let link = LINKS[n];
     LinkAt { end: w.end, link }
@@ -87,14 +93,13 @@ pub fn arrow(s: &[u8], at: usize) -> ArrowAt
     ensures { λ r. ⌜ r ≡ arrowAt (now (s .entry)) (readArrowWord (drop at (now (s .entry)))) ⌝ }
     ensures { λ _. ⌜ now (s .exit) ≡ now (s .entry) ⌝ }
 {
-    let w = which(s, at, b"sv si mv mi st mt ");
+    let w = which(s, at, 2, b"svsimvmistmt");
     let n = w.number;
     let arrow = ARROWS[n];
     ArrowAt { end: w.end, arrow }
 }
 
-const RULES: [Rule; 13] = [
-    Rule::Refl,
+const RULES: [Rule; 12] = [
     Rule::Res,
     Rule::Fac,
     Rule::Par,
@@ -113,7 +118,14 @@ pub fn rule(s: &[u8], at: usize) -> RuleAt
     ensures { λ r. ⌜ r ≡ ruleAt (now (s .entry)) (readRule (drop at (now (s .entry)))) ⌝ }
     ensures { λ _. ⌜ now (s .exit) ≡ now (s .entry) ⌝ }
 {
-    let w = which(s, at, b"refl res fac par acy tra inc inh inp out sca eli ");
+    let first = word(s, at, b"refl");
+    if first <= s.len() {
+        return RuleAt {
+            end: first,
+            rule: Rule::Refl,
+        };
+    }
+    let w = which(s, at, 3, b"resfacparacytraincinhinpoutscaeli");
     let n = w.number;
     let rule = RULES[n];
     RuleAt { end: w.end, rule }
@@ -125,7 +137,7 @@ pub fn sign(s: &[u8], at: usize) -> SignAt
     ensures { λ r. ⌜ r ≡ signAt (now (s .entry)) (readSign (drop at (now (s .entry)))) ⌝ }
     ensures { λ _. ⌜ now (s .exit) ≡ now (s .entry) ⌝ }
 {
-    let w = which(s, at, b"+ - ");
+    let w = which(s, at, 1, b"+-");
     let n = w.number;
     let sign = SIGNS[n];
     SignAt { end: w.end, sign }

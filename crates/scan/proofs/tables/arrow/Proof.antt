@@ -19,4 +19,4 @@ unfolding wordAt readArrowWord
 returns c = (let a = c .before .before .before .before .args in let s = now (a .s) in let t = table-law arrowWord Mt Sv s (drop (a .at) s) arrows (c .before .which .ensures) in λ i. record { end = t .1 i; arrow = t .2 i }, refl)
 
 pub arrow-spec : {M : Type 1} → statement M
-arrow-spec = tie.close (tie.spec (λ c. refl) (λ c κs. tt) array-copy-out-arrow returns)
+arrow-spec = tie.close (tie.spec (λ c. refl) (λ c κs. omega arith) array-copy-out-arrow returns)

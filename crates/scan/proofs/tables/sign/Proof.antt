@@ -19,4 +19,4 @@ unfolding wordAt readSign
 returns c = (let a = c .before .before .before .before .args in let s = now (a .s) in let t = table-law signWord Negative Positive s (drop (a .at) s) signs (c .before .which .ensures) in λ i. record { end = t .1 i; sign = t .2 i }, refl)
 
 pub sign-spec : {M : Type 1} → statement M
-sign-spec = tie.close (tie.spec (λ c. refl) (λ c κs. tt) array-copy-out-sign returns)
+sign-spec = tie.close (tie.spec (λ c. refl) (λ c κs. omega arith) array-copy-out-sign returns)
