@@ -192,7 +192,7 @@ module _ (depth : ℕ) where
       first-length true h = width-of cs (s .a) f true h
 
       -- Check 8.
-      numbers-same : unusedNumbers (s .rule) (s .a) (s .i) (s .b) (s .j) (s .k) && listsAt (s .rule) (count (s .first)) (count (s .second)) (z .width) (z′ .width) ≡ numbersRight cs s
+      numbers-same : unusedNumbers (s .rule) (s .a) (s .i) (s .b) (s .j) (s .k) && listsAt (uses (s .rule) .a) (uses (s .rule) .b) (count (s .first)) (count (s .second)) (z .width) (z′ .width) ≡ numbersRight cs s
       unfolding unusedNumbers listsAt numbersRight unusedZero listsFit firstLength parentA parentB
       numbers-same = rw (first-length (uses (s .rule) .a) below-a, width-of cs (s .b) g (uses (s .rule) .b) below-b)
 

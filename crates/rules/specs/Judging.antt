@@ -27,8 +27,8 @@ use Rattle.rules.specs.Claim.{claimAt}
 
 -- R3: "The list of a used parent has exactly as many terms as the parent's highest variable plus 1, and 0 where it has no variable. The
 -- list of an unused parent has none, but for refl, whose first list has one term T."
-unfoldable pub listsAt : Rule → ℕ → ℕ → ℕ → ℕ → Bool
-listsAt rule firsts seconds v w = eqb firsts (cond (uses rule .a) v 1) && eqb seconds (cond (uses rule .b) w 0)
+unfoldable pub listsAt : Bool → Bool → ℕ → ℕ → ℕ → ℕ → Bool
+listsAt a b firsts seconds v w = eqb firsts (cond a v 1) && eqb seconds (cond b w 0)
 
 -- V3: check 11 comes after 9 and 10.
 unfoldable pub thenClaim : Judged → Bool → Judged
@@ -65,8 +65,8 @@ stepAt depth own p a q b line l =
     let n = cond (uses (l .rule) .a) (a .literals) 0 in
     let two = concludeAt depth (l .rule) (l .k) p n (l .i) line first q (b .literals) (l .j) second (l .clause) in
     let one = concludeAt depth (l .rule) (l .k) p n (l .i) line first p 0 (l .j) first (l .clause) in
-    let numbers =
-    unusedNumbers (l .rule) (l .a) (l .i) (l .b) (l .j) (l .k) && listsAt (l .rule) (l .firsts) (l .seconds) (a .width) (b .width) in
+    let fit = listsAt (uses (l .rule) .a) (uses (l .rule) .b) (l .firsts) (l .seconds) (a .width) (b .width) in
+    let numbers = unusedNumbers (l .rule) (l .a) (l .i) (l .b) (l .j) (l .k) && fit in
     settledAs (parentNumbers (l .rule) own (l .a) (l .b)) numbers (cond (uses (l .rule) .b) two one)
 
 -- A part of a text that begins with a clause, formed, its terms at most so deep; its number of literals and its width are these.

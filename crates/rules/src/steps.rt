@@ -34,12 +34,12 @@ struct Literals {
     b: usize,
 }
 
-// The second part of check 8 (V18): "a list has the wrong length".
-fn lists_fit(rule: Rule, firsts: usize, seconds: usize, v: usize, w: usize) -> bool
-    ensures { λ r. ⌜ r ≡ listsAt rule firsts seconds v w ⌝ }
+// The second part of check 8 (V18): "a list has the wrong length", of a rule that uses A or not, and B or not.
+fn lists_fit(a: bool, b: bool, firsts: usize, seconds: usize, v: usize, w: usize) -> bool
+    ensures { λ r. ⌜ r ≡ listsAt «a» «b» firsts seconds v w ⌝ }
 {
-    let one = choose(used(rule, 0), v, 1);
-    let two = choose(used(rule, 2), w, 0);
+    let one = choose(a, v, 1);
+    let two = choose(b, w, 0);
     both(firsts == one, seconds == two)
 }
 
@@ -140,13 +140,15 @@ pub fn judge(
     ensures { λ _. ⌜ (now (a .exit) ≡ now (a .entry)) × (now (b .exit) ≡ now (b .entry)) × (now (line .exit) ≡ now (line .entry)) ⌝ }
 {
     let rule = l.rule;
+    let uses_a = used(rule, 0);
+    let uses_b = used(rule, 2);
     let zero = unused_zero(rule, l.a, l.i, l.b, l.j, l.k);
-    let fit = lists_fit(rule, l.firsts, l.seconds, of_a.width, of_b.width);
+    let fit = lists_fit(uses_a, uses_b, l.firsts, l.seconds, of_a.width, of_b.width);
     let below = parents_below(rule, own, l.a, l.b);
-    let n = choose(used(rule, 0), of_a.literals, 0);
+    let n = choose(uses_a, of_a.literals, 0);
     let firsts = list(line, l.first);
-    let first = filling(choose(used(rule, 0), of_a.width, 1), &firsts);
-    if used(rule, 2) {
+    let first = filling(choose(uses_a, of_a.width, 1), &firsts);
+    if uses_b {
         let seconds = list(line, l.second);
         let second = filling(of_b.width, &seconds);
         let two = Literals {

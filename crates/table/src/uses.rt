@@ -4,7 +4,8 @@ use logic::Rule;
 use parts::shapes::both;
 ghost use mathlib.Core.Path.{_≡_};
 ghost use Rattle.logic.specs.StepChecks.{below as belowIf, zeroIfUnused};
-ghost use Rattle.table.specs.Uses.{usesAt, parentNumbers, unusedNumbers};
+ghost use Rattle.logic.specs.Rules.{uses as usesOf};
+ghost use Rattle.table.specs.Uses.{flags, usesAt, parentNumbers, unusedNumbers};
 
 const USES: [[bool; 5]; 12] = [
     [false, false, false, false, false],
@@ -21,6 +22,14 @@ const USES: [[bool; 5]; 12] = [
     [true, true, false, false, false],
 ];
 
+// The rule's row of the table.
+fn row_of(rule: Rule) -> [bool; 5]
+    ensures { λ r. ⌜ r ≡ flags (usesOf rule) ⌝ }
+{
+    let at = row(rule);
+    USES[at]
+}
+
 // Whether the rule uses number `which` of A I B J K, counted from 0.
 pub fn used(rule: Rule, which: usize) -> bool
     ensures { λ r. ⌜ r ≡ usesAt rule which ⌝ }
@@ -28,8 +37,8 @@ pub fn used(rule: Rule, which: usize) -> bool
     if which >= 5 {
         return false;
     }
-    let at = row(rule);
-    USES[at][which]
+    let uses = row_of(rule);
+    uses[which]
 }
 
 // A parent number is below the step's own, if it is used.
@@ -50,20 +59,19 @@ fn zero_if_unused(is_used: bool, n: usize) -> bool
 pub fn parents_below(rule: Rule, own: usize, a: usize, b: usize) -> bool
     ensures { λ r. ⌜ r ≡ parentNumbers rule own a b ⌝ }
 {
-    both(below(own, used(rule, 0), a), below(own, used(rule, 2), b))
+    let uses = row_of(rule);
+    both(below(own, uses[0], a), below(own, uses[2], b))
 }
 
 // The first part of check 8 (V18): "an unused number isn't 0".
 pub fn unused_zero(rule: Rule, a: usize, i: usize, b: usize, j: usize, k: usize) -> bool
     ensures { λ r. ⌜ r ≡ unusedNumbers rule a i b j k ⌝ }
 {
-    let last = both(
-        zero_if_unused(used(rule, 3), j),
-        zero_if_unused(used(rule, 4), k),
-    );
-    let middle = both(zero_if_unused(used(rule, 2), b), last);
+    let uses = row_of(rule);
+    let last = both(zero_if_unused(uses[3], j), zero_if_unused(uses[4], k));
+    let middle = both(zero_if_unused(uses[2], b), last);
     both(
-        zero_if_unused(used(rule, 0), a),
-        both(zero_if_unused(used(rule, 1), i), middle),
+        zero_if_unused(uses[0], a),
+        both(zero_if_unused(uses[1], i), middle),
     )
 }

@@ -1,12 +1,13 @@
-use Rattle.table.specs.Uses.{parentNumbers, usesAt}
+use Rattle.table.specs.Uses.{parentNumbers}
+use borrow.Author.Needs.{needs}
 use Rattle.table.proofs.uses.parents_below.Statement.{statement}
 use Rattle.table.proofs.uses.parents_below.Tie as tie
 
 returns : tie.Need-returns
-unfolding parentNumbers usesAt
-returns c = cc
+unfolding parentNumbers
+returns c = rw (c .both .ensures, c .before .below2 .ensures, c .before .before .below .ensures, c .before .before .before .row-of .ensures)
 
 pub parents-below-spec : {M : Type 1} → statement M
 parents-below-spec =
     tie.close (tie.spec
-    (λ c κs. tt) (λ c κs. tt) (λ c κs. tt) (λ c κs. tt) (λ c κs. tt) returns)
+    (λ c κs. tt) (λ c. search needs) (λ c κs. tt) (λ c. search needs) (λ c κs. tt) (λ c κs. tt) returns)
