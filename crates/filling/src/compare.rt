@@ -105,6 +105,19 @@ fn past(text: &[u8], at: usize, byte: u8) -> usize
     }
 }
 
+// Fewer bytes are compared one by one.
+const MANY: usize = 16;
+
+// The place past the bytes w, if they stand at `at`: most entries are a few bytes.
+fn bytes_past(text: &[u8], at: usize, w: &[u8]) -> usize
+    ensures { λ r. ⌜ r ≡ endOf (now (text .entry)) (strip (now (w .entry)) (drop at (now (text .entry)))) ⌝ }
+{
+    if w.len() < MANY {
+        return word(text, at, w);
+    }
+    prefix(text, at, w)
+}
+
 // A variable of the clause, from its number on: its entry stands in the rest.
 fn expect_entry(
     clause: &[u8],
@@ -124,7 +137,7 @@ fn expect_entry(
     if end > clause.len() {
         return differ(clause, rest);
     }
-    let next = prefix(rest, pos, entry(line, list, index.value));
+    let next = bytes_past(rest, pos, entry(line, list, index.value));
     if next > rest.len() {
         return differ(clause, rest);
     }
