@@ -19,8 +19,12 @@ use table::uses::unused_zero;
 use table::uses::used;
 ghost use mathlib.Core.Path.{_≡_};
 ghost use Rattle.table.specs.Rows.{answer};
+ghost use Rattle.parts.specs.Shapes.{listAt};
 ghost use Rattle.rules.specs.Claim.{droppedAt};
 ghost use Rattle.rules.specs.Judging.{listsAt, thenClaim, concludeAt, settledAs, fillingPlaces, stepAt, Judges};
+
+// The places of a list: of each entry, and past the last.
+const PLACES: usize = 33;
 
 // Of a parent its number of literals, and its highest variable plus 1.
 pub struct Size {
@@ -123,6 +127,16 @@ fn filling(width: usize, places: &[usize]) -> &[usize]
     places
 }
 
+// The places of the list that begins at `at`, if it fills a clause with variables; they are not looked for otherwise.
+fn places(width: usize, line: &[u8], at: usize) -> [usize; PLACES]
+    ensures { λ r. ⌜ fillingPlaces width r ≡ fillingPlaces width (listAt (now (line .entry)) at) ⌝ }
+{
+    if width > 0 {
+        return list(line, at);
+    }
+    [0; PLACES]
+}
+
 // Checks 7 to 11 of a step that was read, over the parts of the text that begin with the clauses that it names as A and B; `own` is its own
 // number. Where B is unused, A stands for it. Terms of these clauses nest at most `depth` deep.
 pub fn judge(
@@ -146,10 +160,11 @@ pub fn judge(
     let fit = lists_fit(uses_a, uses_b, l.firsts, l.seconds, of_a.width, of_b.width);
     let below = parents_below(rule, own, l.a, l.b);
     let n = choose(uses_a, of_a.literals, 0);
-    let firsts = list(line, l.first);
-    let first = filling(choose(uses_a, of_a.width, 1), &firsts);
+    let width = choose(uses_a, of_a.width, 1);
+    let firsts = places(width, line, l.first);
+    let first = filling(width, &firsts);
     if uses_b {
-        let seconds = list(line, l.second);
+        let seconds = places(of_b.width, line, l.second);
         let second = filling(of_b.width, &seconds);
         let two = Literals {
             a: n,

@@ -24,7 +24,7 @@ unfolding stepAt usesAt
 returns c =
     let a = c .before .before .before .before .before .before .before .before .before .before .before .before .before .before .before .before .before .before .before .before .args in
     let u : uses (a .l .rule) .b ≡ true = sym (c .before .before .before .before .before .before .before .before .before .before .before .before .before .before .before .used2 .ensures) ∙ c .before .before .before .before .before .before .if1 .taken in
-    let w = both-promises (a .depth) (a .own) (now (a .a)) (a .of-a) (now (a .b)) (a .of-b) (now (a .line)) (a .l) {r = c .settled .result} (rw (c .settled .ensures, c .before .both .ensures, c .before .before .conclude .ensures, c .before .before .before .filling2 .ensures, c .before .before .before .before .before .list2 .ensures .0, c .before .before .before .before .before .before .before .filling .ensures, c .before .before .before .before .before .before .before .before .before .choose2 .ensures, c .before .before .before .before .before .before .before .before .before .before .list .ensures .0, c .before .before .before .before .before .before .before .before .before .before .before .choose .ensures, c .before .before .before .before .before .before .before .before .before .before .before .before .parents-below .ensures, c .before .before .before .before .before .before .before .before .before .before .before .before .before .lists-fit .ensures, c .before .before .before .before .before .before .before .before .before .before .before .before .before .before .unused-zero .ensures, c .before .before .before .before .before .before .before .before .before .before .before .before .before .before .before .used2 .ensures, c .before .before .before .before .before .before .before .before .before .before .before .before .before .before .before .before .used .ensures, u)) in
+    let w = both-promises (a .depth) (a .own) (now (a .a)) (a .of-a) (now (a .b)) (a .of-b) (now (a .line)) (a .l) {r = c .settled .result} (rw (c .settled .ensures, c .before .both .ensures, c .before .before .conclude .ensures, c .before .before .before .filling2 .ensures, c .before .before .before .before .before .places2 .ensures, c .before .before .before .before .before .before .before .filling .ensures, c .before .before .before .before .before .before .before .before .before .places .ensures, c .before .before .before .before .before .before .before .before .before .before .choose2 .ensures, c .before .before .before .before .before .before .before .before .before .before .before .choose .ensures, c .before .before .before .before .before .before .before .before .before .before .before .before .parents-below .ensures, c .before .before .before .before .before .before .before .before .before .before .before .before .before .lists-fit .ensures, c .before .before .before .before .before .before .before .before .before .before .before .before .before .before .unused-zero .ensures, c .before .before .before .before .before .before .before .before .before .before .before .before .before .before .before .used2 .ensures, c .before .before .before .before .before .before .before .before .before .before .before .before .before .before .before .before .used .ensures, u)) in
     (w .0, (w .1, (refl, refl, refl)))
 
 returns-2 : tie.Need-returns-2
@@ -32,7 +32,7 @@ unfolding stepAt usesAt
 returns-2 c =
     let a = c .before .before .before .before .before .before .before .before .before .before .before .before .before .before .before .before .before .args in
     let u : uses (a .l .rule) .b ≡ false = sym (c .before .before .before .before .before .before .before .before .before .before .before .before .used2 .ensures) ∙ c .before .before .before .if1 .left in
-    let w = both-promises (a .depth) (a .own) (now (a .a)) (a .of-a) (now (a .b)) (a .of-b) (now (a .line)) (a .l) {r = c .settled2 .result} (rw (c .settled2 .ensures, c .before .both2 .ensures, c .before .before .conclude2 .ensures, c .before .before .before .before .filling .ensures, c .before .before .before .before .before .before .choose2 .ensures, c .before .before .before .before .before .before .before .list .ensures .0, c .before .before .before .before .before .before .before .before .choose .ensures, c .before .before .before .before .before .before .before .before .before .parents-below .ensures, c .before .before .before .before .before .before .before .before .before .before .lists-fit .ensures, c .before .before .before .before .before .before .before .before .before .before .before .unused-zero .ensures, c .before .before .before .before .before .before .before .before .before .before .before .before .used2 .ensures, c .before .before .before .before .before .before .before .before .before .before .before .before .before .used .ensures, u)) in
+    let w = both-promises (a .depth) (a .own) (now (a .a)) (a .of-a) (now (a .b)) (a .of-b) (now (a .line)) (a .l) {r = c .settled2 .result} (rw (c .settled2 .ensures, c .before .both2 .ensures, c .before .before .conclude2 .ensures, c .before .before .before .before .filling .ensures, c .before .before .before .before .before .before .places .ensures, c .before .before .before .before .before .before .before .choose2 .ensures, c .before .before .before .before .before .before .before .before .choose .ensures, c .before .before .before .before .before .before .before .before .before .parents-below .ensures, c .before .before .before .before .before .before .before .before .before .before .lists-fit .ensures, c .before .before .before .before .before .before .before .before .before .before .before .unused-zero .ensures, c .before .before .before .before .before .before .before .before .before .before .before .before .used2 .ensures, c .before .before .before .before .before .before .before .before .before .before .before .before .before .used .ensures, u)) in
     (w .0, (w .1, (refl, refl, refl)))
 
 pub judge-spec : {M : Type 1} → statement M
