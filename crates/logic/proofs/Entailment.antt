@@ -88,7 +88,7 @@ unfolding below
 below-parent own true n h u = leb→le (suc n) own h
 below-parent own false n h u = absurd u
 
-parents : (cs : List Clause) (s : Step) → Given cs s → (T (uses (s .rule) .a) → s .a < length cs) × (T (uses (s .rule) .b) → s .b < length cs)
+pub parents : (cs : List Clause) (s : Step) → Given cs s → (T (uses (s .rule) .a) → s .a < length cs) × (T (uses (s .rule) .b) → s .b < length cs)
 unfolding parentsBelow
 parents cs s w =
     let a = below (length cs) (uses (s .rule) .a) (s .a) in

@@ -8,6 +8,7 @@ pub mod Ground
 pub mod Tested
 pub mod Soundness
 pub mod Entailment
+pub mod Descending
 pub mod Agreeing
 pub mod Written
 pub mod Parts

@@ -8,6 +8,8 @@ pub mod Rules
 pub mod StepChecks
 pub mod Structure
 pub mod Derivation
+pub mod Descent
 -- What is computed: nothing in these has to be believed.
 pub mod Equality
 pub mod Judge
+pub mod Reach
