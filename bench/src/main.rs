@@ -14,7 +14,7 @@ use std::hint::black_box;
 use std::time::{Duration, Instant};
 
 use counts::Counts;
-use second::Verdict;
+use second::{Verdict, MAX_LINES};
 use texts::{Family, Text};
 
 /// A sample repeats a call until it takes so long.
@@ -88,16 +88,20 @@ fn print_row(text: &Text, second: f64, fcheck: f64, counts: &Counts) {
     );
 }
 
-/// Holds both checkers to what the text is made for.
+/// Holds both checkers to what the text is made for, and to each other over the
+/// whole answer.
 fn hold(text: &Text) {
     for part in &text.parts {
         let second = second::check(part);
-        let right = match (text.family, second) {
+        let right = match (text.family, second.verdict) {
             (Family::Corpus, _) => true,
             (Family::Late, Verdict::Refused { number, line }) => {
                 number == 11 && line == text.lines()
             }
-            (Family::Late, _) => false,
+            (Family::Refutation, Verdict::Refuted { count, first }) => {
+                first + 1 == count && text.lines() == MAX_LINES
+            }
+            (Family::Late | Family::Refutation, _) => false,
             (_, Verdict::Refused { .. }) => false,
             _ => true,
         };

@@ -2,7 +2,7 @@
 
 use std::arch::asm;
 
-use fcheck::raw::fcheck_check;
+use fcheck::raw::{fcheck_check, CLAUSES};
 
 /// The size of the painted stack.
 const SIZE: usize = 1 << 20;
@@ -12,6 +12,7 @@ const PAINT: u8 = 0xA5;
 pub fn used(text: &[u8]) -> usize {
     let mut stack = vec![PAINT; SIZE];
     let (mut first, mut second) = (0usize, 0usize);
+    let mut rests = [0u8; CLAUSES];
     // The top, at a multiple of 16 as a call asks.
     let top = (stack.as_mut_ptr() as usize + SIZE) & !15;
     // SAFETY: the call runs on the painted bytes, and r12, which it keeps, holds
@@ -27,6 +28,8 @@ pub fn used(text: &[u8]) -> usize {
             in("rsi") text.len(),
             in("rdx") &mut first,
             in("rcx") &mut second,
+            in("r8") rests.as_mut_ptr(),
+            in("r9") rests.len(),
             lateout("rax") _,
             clobber_abi("C"),
         );

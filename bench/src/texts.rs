@@ -33,6 +33,8 @@ pub enum Family {
     Corpus,
     /// Accepted: long literals, all variables, filled by long entries in both parents.
     FilledBoth,
+    /// Refuted by the last line, through nearly all the steps before it.
+    Refutation,
 }
 
 impl Family {
@@ -104,6 +106,7 @@ pub fn all() -> Vec<Text> {
             FilledBoth,
             filled_both(),
         ),
+        Text::new("k  a refutation by all its steps", Refutation, chain()),
     ]
 }
 
@@ -120,6 +123,7 @@ fn ordinary(bytes: usize) -> Derivation {
         size: 14,
         steps: 4 * MAX_LINES,
         refute: false,
+        recent: 0,
     };
     let mut derivation = derive(&mut Random::new(1), style, &RULES);
     let enough = MAX_LINES - derivation.arities.len() - derivation.inputs.len();
@@ -266,6 +270,30 @@ fn filled_both() -> Vec<u8> {
         ));
     }
     text.push_str(&format!("(by res 0 0 1 0 0 (let {entry}) (let {entry}) (or))\n").repeat(20));
+    text.into_bytes()
+}
+
+/// As many lines as a text may have: a chain of short steps, each from the one
+/// before, and the empty clause as the last. Input 1 is not used.
+fn chain() -> Vec<u8> {
+    let atom = "(obj (f 0))";
+    let mut text = SYMBOLS.to_string();
+    for clause in [
+        format!("(+ {atom})"),
+        format!("(+ {atom})"),
+        format!("(- {atom}) (+ {atom})"),
+        format!("(- {atom})"),
+    ] {
+        text.push_str(&format!("(in (or {clause}))\n"));
+    }
+    let mut last = 0;
+    for own in 4..MAX_LINES - SYMBOLS.lines().count() - 1 {
+        text.push_str(&format!(
+            "(by res 2 0 {last} 0 0 (let) (let) (or (+ {atom})))\n"
+        ));
+        last = own;
+    }
+    text.push_str(&format!("(by res 3 0 {last} 0 0 (let) (let) (or))\n"));
     text.into_bytes()
 }
 

@@ -1,4 +1,4 @@
-/* The verdict on a text, from target/staticlib/libcapi.a (`rt staticlib capi`). docs/C-API.md says what a caller owes. */
+/* The answer to a text, from target/staticlib/libcapi.a (`rt staticlib capi`). docs/C-API.md says what a caller owes. */
 #ifndef FCHECK_H
 #define FCHECK_H
 
@@ -16,8 +16,12 @@ enum {
     FCHECK_REFUTED = 2  /* first: the number of clauses; second: the number of the first empty one */
 };
 
-/* Answers the word of the verdict on text[0 .. length - 1] and leaves the verdict's numbers in *first and *second. */
-uint32_t fcheck_check(const uint8_t *text, size_t length, size_t *first, size_t *second);
+/* No text has so many clauses: room for the inputs of any. */
+enum { FCHECK_CLAUSES = 1024 };
+
+/* Answers the word of the verdict on text[0 .. length - 1] and leaves the verdict's numbers in *first and *second. Then rests[n], for each
+   n < room, is 1 where the text is refuted and its first empty clause descends from input clause n, or is it, and 0 otherwise. */
+uint32_t fcheck_check(const uint8_t *text, size_t length, size_t *first, size_t *second, uint8_t *rests, size_t room);
 
 #ifdef __cplusplus
 }

@@ -3,10 +3,11 @@ use Prim.Native.Nat.{ℕ, zero, suc, _+_, _-_, _/_, _%_, _^_, _≤_, _<_}
 use mathlib.Core.Path.{_≡_, refl, sym, ap, _∙_, subst}
 use mathlib.Core.Bool.{Bool, true, false}
 use mathlib.Core.List.{List, [], _∷_, _++_, append-assoc, append-nil}
-use native.Mathlib.Nat.{pow-suc, mod-eq-of-lt, mod-lt, div-lt-iff-lt-mul, le-div-iff-mul-le, one-le-pow, pow-le-pow-right}
+use native.Mathlib.Nat.{pow-suc, mod-eq-of-lt, mod-lt, div-lt-iff-lt-mul, le-div-iff-mul-le, one-le-pow}
 use native.Mathlib.Omega.{arith}
-use lib.Dec.{ltb, leb, lit<}
-use borrow.Author.Tests.{lt-ltb, le-ltb, leb-true, leb-false}
+use lib.Dec.{ltb, lit<}
+use lib.ListN.{length, length-append}
+use borrow.Author.Tests.{lt-ltb, le-ltb, ltb-false}
 use Rattle.io.specs.Digits.{glyph, digits, Fewest}
 use Rattle.text.specs.Write.{putDigits, putNumber}
 use Rattle.answer.specs.Line.{numeral}
@@ -50,13 +51,31 @@ decimal-numeral n (suc k) h = sym (given n k n [] (enough n k large) (h .1) larg
     large : 0 < k → 10 ^ k ≤ n
     large p = subst (λ (m : ℕ). 10 ^ m ≤ n) (omega arith) (h .2 (omega arith))
 
-few-at : (n k : ℕ) (b : Bool) → leb k 20 ≡ b → n < 2 ^ 64 → Fewest 10 1 n k → k ≤ 20
-few-at n k true e small h = leb-true k 20 e
-few-at n k false e small h =
-    let more : 20 < k = leb-false k 20 e in
-    let grown : 10 ^ 20 ≤ 10 ^ (k - 1) = pow-le-pow-right (lit< tt) {i = 20} {j = k - 1} (omega arith) in
-    absurd (omega (arith, h .2 (omega arith)))
+-- A number below 10 ^ (d + 1) is put as at most d + 1 digits.
+abbrev Short : ℕ → ℕ → ℕ → List ℕ → Type 0
+Short f d n rest = n < 10 ^ suc d → length (putDigits f n rest) ≤ suc d + length rest
+
+short-at : (f d n : ℕ) (rest : List ℕ) (b : Bool) → ltb n 10 ≡ b → ((e : ℕ) → Short f e (n / 10) ((48 + n % 10) ∷ rest)) → Short (suc f) d n rest
+unfolding putDigits
+short-at f d n rest true e front small = rw e (omega arith)
+short-at f zero n rest false e front small = absurd (omega (arith, pow-suc 10 0, ltb-false n 10 e))
+short-at f (suc d) n rest false e front small =
+    let below : n / 10 < 10 ^ suc d = div-lt-iff-lt-mul (lit< tt) .1 (subst (λ (m : ℕ). n < m) (pow-suc 10 (suc d)) small) in
+    rw e (omega (arith, front d below))
+
+short : (f d n : ℕ) (rest : List ℕ) → Short f d n rest
+unfolding putDigits
+short zero d n rest small = omega arith
+short (suc f) d n rest small = short-at f d n rest (ltb n 10) refl (λ e. short f e (n / 10) ((48 + n % 10) ∷ rest)) small
+
+pub numeral-short : (d n : ℕ) → n < 10 ^ suc d → length (numeral n) ≤ suc d
+unfolding numeral putNumber
+numeral-short d n small = omega (arith, short n d n [] small)
+
+length-digits : (b k n : ℕ) → length (digits b k n) ≡ k
+length-digits b zero n = refl
+length-digits b (suc k) n = omega (arith, length-append (digits b k (n / b)) (glyph (n % b) ∷ []), length-digits b k (n / b))
 
 -- A number of 64 bits has at most 20 digits.
 pub few : (n k : ℕ) → n < 2 ^ 64 → Fewest 10 1 n k → k ≤ 20
-few n k = few-at n k (leb k 20) refl
+few n k small h = omega (arith, length-digits 10 k n, ap length (decimal-numeral n k h), numeral-short 19 n (omega arith))

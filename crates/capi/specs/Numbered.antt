@@ -1,6 +1,10 @@
--- V29: a verdict as three numbers, for callers in other languages.
-use Prim.Native.Nat.{ℕ}
-use lib.ListN.{getD}
+-- V29, V33: an answer as numbers and bytes, for callers in other languages.
+use Prim.Native.Nat.{ℕ, zero, suc}
+use mathlib.Core.Bool.{cond}
+use mathlib.Core.List.{List, [], _∷_, _++_}
+use mathlib.Core.Path.{_≡_}
+use lib.ListN.{length, drop, getD}
+use Rattle.logic.specs.Descent.{among}
 use Rattle.verdict.specs.declared.Verdict.{Verdict}
 use Rattle.verdict.specs.declared.Verdict.the-variants.{Refuted, Open, Refused}
 use Rattle.verdict.specs.Means.{numbers}
@@ -17,3 +21,18 @@ firstNumber v = getD (numbers v) 0 0
 
 unfoldable pub secondNumber : Verdict → ℕ
 secondNumber v = getD (numbers v) 1 0
+
+-- V33: "also lends bytes, of which byte n becomes 1 where input n is named, and 0 otherwise".
+unfoldable pub flag : List ℕ → ℕ → ℕ
+flag ns n = cond (among n ns) 1 0
+
+-- V33: all bytes of a buffer, however many it has.
+unfoldable pub flags : ℕ → List ℕ → List ℕ
+flags zero ns = []
+flags (suc room) ns = flags room ns ++ (flag ns room ∷ [])
+
+-- The bytes from one place to another are written so. Nothing of this has to be believed: `fcheck_check` says what all of them are.
+unfoldable pub Flagged : List ℕ → ℕ → ℕ → List ℕ → List ℕ → Type 0
+Flagged ns from to before after =
+    (length after ≡ length before) ×
+    ((base : List ℕ) → length base ≡ length before → before ≡ flags from ns ++ drop from base → after ≡ flags to ns ++ drop to base)

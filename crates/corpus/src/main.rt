@@ -1,9 +1,10 @@
-// Prints the verdict of each text of a stored corpus. The file has for each text its length, in four
+// Prints the answer to each text of a stored corpus. The file has for each text its length, in four
 // bytes, the lowest first, and then its bytes, at most 65,536.
 ghost use Prim.Native.Nat.{_<_};
+use answer::ROOM;
 use libc::STDERR_FILENO;
 use libc::STDOUT_FILENO;
-use verdict::Verdict;
+use verdict::Answer;
 
 fn wide(x: u8) -> usize
     ensures { λ r. ⌜ r < 256 ⌝ }
@@ -16,10 +17,10 @@ fn length_of(b: &[u8; 4]) -> usize {
     wide(b[0]) + 256 * wide(b[1]) + 65536 * wide(b[2]) + 16777216 * wide(b[3])
 }
 
-// Prints the verdict's line, and answers whether all of it was written.
-fn print(v: Verdict) -> bool {
-    let mut out = [0u8; 64];
-    let n = answer::line(v, &mut out);
+// Prints the lines of an answer, and answers whether all was written.
+fn print(a: Answer) -> bool {
+    let mut out = [0u8; ROOM];
+    let n = answer::lines(a, &mut out);
     let done = io::write_all(STDOUT_FILENO, &out[..n]);
     if !done {
         io::write_all(STDERR_FILENO, b"corpus: standard output can't be written\n");
@@ -27,7 +28,7 @@ fn print(v: Verdict) -> bool {
     done
 }
 
-// Reads a text of n bytes and prints its verdict, and answers whether to go on.
+// Reads a text of n bytes and prints its answer, and answers whether to go on.
 fn answer_next(fd: i32, n: usize) -> bool {
     let mut text = io::large_buffer();
     if n > 65536 {
@@ -39,9 +40,7 @@ fn answer_next(fd: i32, n: usize) -> bool {
         io::write_all(STDERR_FILENO, b"corpus: a text is cut short\n");
         return false;
     }
-    let answer = verdict::check(&text[..n]);
-    let v = answer.verdict;
-    print(v)
+    print(verdict::check(&text[..n]))
 }
 
 // Reads a text's length and then the text, and answers whether to go on.

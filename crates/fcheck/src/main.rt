@@ -1,9 +1,10 @@
-// Reads a text from standard input and prints its verdict.
+// Reads a text from standard input and prints the answer to it.
 ghost use Rattle.fcheck.specs.ReadText.{InBuffer};
+use answer::ROOM;
 use libc::STDERR_FILENO;
 use libc::STDIN_FILENO;
 use libc::STDOUT_FILENO;
-use verdict::Verdict;
+use verdict::Answer;
 
 // What came of reading.
 enum Input {
@@ -31,10 +32,10 @@ fn read_text(text: &mut [u8]) -> Input
     Input::Bytes(at)
 }
 
-// Prints the verdict's line.
-fn print(v: Verdict) {
-    let mut out = [0u8; 64];
-    let n = answer::line(v, &mut out);
+// Prints the lines of an answer.
+fn print(a: Answer) {
+    let mut out = [0u8; ROOM];
+    let n = answer::lines(a, &mut out);
     if !io::write_all(STDOUT_FILENO, &out[..n]) {
         io::write_all(STDERR_FILENO, b"fcheck: standard output can't be written\n");
     }
@@ -47,9 +48,7 @@ fn check_input() {
     let input = read_text(&mut text);
     match input {
         Input::Bytes(n) => {
-            let answer = verdict::check(&text[..n]);
-            let v = answer.verdict;
-            print(v);
+            print(verdict::check(&text[..n]));
         }
         Input::Failed => {
             io::write_all(STDERR_FILENO, b"fcheck: standard input can't be read\n");

@@ -1,7 +1,8 @@
--- C1 to C10 have the verdicts of TEXT-FORM, and the example texts theirs.
+-- C1 to C10 have the answers of TEXT-FORM, and the example texts theirs.
+use Prim.Native.Nat.{ℕ}
 use Prim.Native.String.{String}
 use mathlib.Core.List.{List, [], _∷_, map}
-use mathlib.Core.Path.{_≡_, refl}
+use mathlib.Core.Path.{_≡_, refl, ap}
 use Rattle.verdict.specs.declared.Verdict.{Verdict}
 use Rattle.verdict.specs.declared.Verdict.the-variants.{Refuted, Open, Refused}
 use Rattle.logic.specs.Each.{eachTerm, eachTerms, eachAtom, eachClause, declares, termWidth, termsWidth, width}
@@ -10,6 +11,8 @@ use Rattle.logic.specs.Fill.{entries, fill, fills, fillResult, fillAtom, fillLi
 use Rattle.logic.specs.StepChecks.{parentClause, parentA, parentB, below, parentsBelow, zeroIfUnused, unusedZero, firstLength, listsFit, numbersRight, judgedNumber}
 use Rattle.logic.specs.Judge.{onAt, onPlus, onMinus, onLink, onObj, onResult, onMethod, onPlaced, onFound, onSub, conclude-res, conclude-acy, conclude-link, onSignature, conclude-inh, conclude-inp, conclude-out, onScalar, conclude-sca, before, tableRow, conclude-eli, conclude-two, conclude-fac, conclude-par, conclude, conclusion, covers?, holds?, judgeConclusion, judge}
 use Rattle.logic.specs.Occurrence.{mapSearch, inTurn, findTerm, findTerms, findAtom, findLiteral}
+use Rattle.logic.specs.Descent.{among, usedParents, numbersBelow}
+use Rattle.logic.specs.Reach.{reached, restsOn}
 use Rattle.logic.specs.Rules.{uses, bareResult, bare, signature, scalar, filled}
 use Rattle.logic.specs.Syntax.{mayBeNone}
 use native.Mathlib.Decide.{ℕ-discrete}
@@ -19,15 +22,21 @@ use Rattle.text.specs.Read.{strip, oneOf, digit, goesOn, readDigits, readNumber
 use Rattle.text.specs.Split.{push, split}
 use Rattle.reader.specs.State.{fresh, clauses, advance, isEmpty, ordered, hasConstant, constantReady, argumentsFit, argumentsFitAll, clauseFits, listFits, withinLimits, symbolsDeclared, after, stateAfter}
 use Rattle.reader.specs.Failure.{lineFailure}
-use Rattle.verdict.specs.Answer.{stepFailure, failure, isNil, firstEmpty, acceptedAs, finish, readOn, verdict}
+use Rattle.verdict.specs.Answer.{stepFailure, failure, isNil, firstEmpty, acceptedAs, finish, readOn, verdict, restsIn, rests}
 use Rattle.verdict.specs.Checks.{readings, tooLarge, stateOf, tableOf, inputsOf}
 use Rattle.verdict.specs.Corners.{textOf, chain, corners, AllMeant}
 use Rattle.verdict.proofs.Examples.{refutedText, openText, refusedText, modelled}
-use Rattle.verdict.proofs.Meaning.{verdict-exactly}
+use Rattle.verdict.proofs.Guaranteed.{answer-exactly}
+
+abbrev Row : Type 0
+Row = List String × (Verdict × List ℕ)
+
+abbrev answerTo : List String → Verdict × List ℕ
+answerTo lines = (verdict office (textOf lines), rests office (textOf lines))
 
 -- What is computed of the corners and of the example texts.
 pub record Computed : Type 0 where
-  pub verdicts : map (λ (c : List String × Verdict). verdict office (textOf (c .0))) corners ≡ map (λ (c : List String × Verdict). c .1) corners
+  pub answers : map (λ (c : Row). answerTo (c .0)) corners ≡ map (λ (c : Row). c .1) corners
   pub refuted-text : verdict office refutedText ≡ Refuted 3 2
   pub open-text : verdict office openText ≡ Open 1
   pub open-table : tableOf office openText ≡ 0 ∷ []
@@ -37,9 +46,9 @@ pub record Computed : Type 0 where
   pub refused-inputs : inputsOf office refusedText ≡ modelled
 
 pub computed : Computed
-unfolding eachTerm eachTerms eachAtom eachClause declares termWidth termsWidth width signNumber nthSign linkNumber nthLink arrowNumber nthArrow sign? link? arrow? terms? atom? call? literal? consSame clause? byNumber ℕ-discrete entries fill fills fillResult fillAtom fillLiteral fillClause parentClause parentA parentB below parentsBelow zeroIfUnused unusedZero firstLength listsFit numbersRight onAt onPlus onMinus onLink onObj onResult onMethod onPlaced onFound onSub conclude-res conclude-acy conclude-link onSignature conclude-inh conclude-inp conclude-out onScalar conclude-sca before tableRow conclude-eli conclude-two conclude-fac conclude-par conclude conclusion covers? holds? judgeConclusion judge judgedNumber mapSearch inTurn findTerm findTerms findAtom findLiteral uses bareResult bare signature scalar filled mayBeNone join count entryOr resultTerms termsOf front rest nth withResult withTerms strip oneOf digit goesOn readDigits readNumber readNext readItems readMany readVariable readApplied readTerm readArguments readResult readLink readObject readMethod readKind readAtom readSign readLiteral readClause readLet readRule readSym readInput readStep readForm whole readLine push split readRaw fresh clauses advance isEmpty ordered hasConstant constantReady argumentsFit argumentsFitAll clauseFits listFits withinLimits symbolsDeclared lineFailure after stepFailure failure isNil firstEmpty acceptedAs finish readOn verdict readings tooLarge textOf chain corners stateAfter stateOf tableOf inputsOf refutedText openText refusedText
+unfolding eachTerm eachTerms eachAtom eachClause declares termWidth termsWidth width signNumber nthSign linkNumber nthLink arrowNumber nthArrow sign? link? arrow? terms? atom? call? literal? consSame clause? byNumber ℕ-discrete entries fill fills fillResult fillAtom fillLiteral fillClause parentClause parentA parentB below parentsBelow zeroIfUnused unusedZero firstLength listsFit numbersRight onAt onPlus onMinus onLink onObj onResult onMethod onPlaced onFound onSub conclude-res conclude-acy conclude-link onSignature conclude-inh conclude-inp conclude-out onScalar conclude-sca before tableRow conclude-eli conclude-two conclude-fac conclude-par conclude conclusion covers? holds? judgeConclusion judge judgedNumber mapSearch inTurn findTerm findTerms findAtom findLiteral uses bareResult bare signature scalar filled mayBeNone join count entryOr resultTerms termsOf front rest nth withResult withTerms strip oneOf digit goesOn readDigits readNumber readNext readItems readMany readVariable readApplied readTerm readArguments readResult readLink readObject readMethod readKind readAtom readSign readLiteral readClause readLet readRule readSym readInput readStep readForm whole readLine push split readRaw fresh clauses advance isEmpty ordered hasConstant constantReady argumentsFit argumentsFitAll clauseFits listFits withinLimits symbolsDeclared lineFailure after stepFailure failure isNil firstEmpty acceptedAs finish readOn verdict usedParents numbersBelow among reached restsOn restsIn rests readings tooLarge textOf chain corners stateAfter stateOf tableOf inputsOf refutedText openText refusedText
 computed = record {
-  verdicts = refl;
+  answers = refl;
   refuted-text = refl;
   open-text = refl;
   open-table = refl;
@@ -50,10 +59,12 @@ computed = record {
 }
 
 -- C1 to C10.
-all-meant : (cs : List (List String × Verdict)) → map (λ (c : List String × Verdict). verdict office (textOf (c .0))) cs ≡ map (λ (c : List String × Verdict). c .1) cs → AllMeant cs
+all-meant : (cs : List Row) → map (λ (c : Row). answerTo (c .0)) cs ≡ map (λ (c : Row). c .1) cs → AllMeant cs
 unfolding AllMeant
 all-meant [] e = tt
-all-meant ((lines, v) ∷ cs) e = (verdict-exactly office (textOf lines) v .0 (cc), all-meant cs (cc))
+all-meant ((lines, (v, ns)) ∷ cs) e =
+    let h : answerTo lines ≡ (v, ns) = cc in
+    (answer-exactly office (textOf lines) v ns .0 (ap (λ (p : Verdict × List ℕ). p .0) h, ap (λ (p : Verdict × List ℕ). p .1) h), all-meant cs (cc))
 
 pub corners-right : AllMeant corners
-corners-right = all-meant corners (computed .verdicts)
+corners-right = all-meant corners (computed .answers)

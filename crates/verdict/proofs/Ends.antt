@@ -1,21 +1,28 @@
 -- Where the text ends: the first clause without literals, and the answer.
 use Prim.Native.Nat.{ℕ, suc, _+_, _≤_, _<_}
 use mathlib.Core.Bool.{Bool, true, false, cond}
-use mathlib.Core.List.{List, [], _∷_}
+use mathlib.Core.List.{List, [], _∷_, _++_, map}
 use mathlib.Core.Logic.{_⊎_, inl, inr, ⊎-elim}
 use mathlib.Core.Path.{_≡_, refl, sym, ap, _∙_}
 use native.Mathlib.Omega.{arith}
 use native.Mathlib.Numerals.{add-one}
 use borrow.Author.Tests.{lt-ltb, le-ltb}
-use lib.ListN.{length, getD, take, drop, length-take, drop-of-length-le}
+use lib.ListN.{length, getD, take, drop, length-take, length-append, length-map, drop-of-length-le}
 use lib.Seq.{drop-cons}
 use Rattle.logic.specs.Syntax.{Clause}
 use Rattle.reader.specs.declared.states.HeldState as code
-use Rattle.reader.specs.State.{State, clauses, hasConstant}
+use Rattle.reader.specs.State.{State, claimOf, clauses, hasConstant}
 use Rattle.reader.specs.ReadLine.{heldTable}
 use Rattle.reader.specs.Represents.{Represents}
+use Rattle.logic.specs.Reach.{ParentsFall}
+use Rattle.text.specs.Figures.{office}
+use Rattle.descent.specs.Walk.{inputsFrom}
+use Rattle.descent.proofs.Walking.{walk-rests}
+use Rattle.verdict.specs.declared.Verdict.{Verdict}
 use Rattle.verdict.specs.declared.Verdict.the-variants.{Refuted, Open, Refused}
-use Rattle.verdict.specs.Answer.{isNil, firstEmpty, acceptedAs, finish}
+use Rattle.verdict.specs.Means.{named}
+use Rattle.verdict.specs.Answer.{isNil, firstEmpty, acceptedAs, finish, restsIn}
+use Rattle.verdict.specs.Running.{Parented}
 
 -- A clause without literals.
 nil-or-not : (c : Clause) → ((length c ≡ 0) × (isNil c ≡ true)) ⊎ ((length c ≡ 0 → ⊥) × (isNil c ≡ false))
@@ -87,3 +94,15 @@ module _ {depth : ℕ} {text : List ℕ} {held : code.HeldState} {st : State} (R
       Open (held .clauses) ≡ finish st
   unfolding finish acceptedAs
   finish-open {first} e f l = rw (constant-held e, ← f, ← R .count, le-ltb first (held .clauses) l)
+
+  -- The inputs that are named: none, or those that the walk back marks.
+  pub named-none : {v : Verdict} → v ≡ finish st → restsIn st v ≡ [] → (rests : List Bool) → named rests ≡ [] → named rests ≡ restsIn st (finish st)
+  named-none e f rests g = g ∙ sym f ∙ ap (restsIn st) e
+
+  pub named-walked : {ps qs : List ℕ} {first : ℕ} → Parented st ps qs → ParentsFall (length (st .inputs)) (st .steps) → first < held .clauses → held .clauses ≤ office .lines →
+      Refuted (held .clauses) first ≡ finish st → (rests : List Bool) → rests ≡ inputsFrom ps qs (held .inputs) first → named rests ≡ restsIn st (finish st)
+  unfolding named restsIn clauses
+  named-walked {ps} {qs} {first} P falls l room e rests g =
+      let n : length (clauses st) ≡ length (st .inputs) + length (st .steps) = length-append (st .inputs) (map claimOf (st .steps)) ∙ rw (length-map (st .steps) claimOf) in
+      let w = walk-rests (length (st .inputs)) (st .steps) ps qs (P .first) (P .second) falls (omega (arith, R .count, n)) first (omega (arith, R .count, n)) in
+      rw (← e, g, R .inputs) w

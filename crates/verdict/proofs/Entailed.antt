@@ -2,6 +2,7 @@
 use Prim.Native.Nat.{ℕ, zero, suc, _<_}
 use mathlib.Core.Bool.{Bool, true, false, _&&_, _||_}
 use mathlib.Core.List.{List, [], _∷_, _++_, map, append-nil, append-assoc}
+use mathlib.Core.Logic.{inl, inr, ⊎-elim}
 use mathlib.Core.Path.{_≡_, refl}
 use native.Mathlib.Omega.{arith}
 use lib.Dec.{T, eqb}
@@ -11,15 +12,20 @@ use Rattle.logic.specs.Terms.{count}
 use Rattle.logic.specs.Each.{eachTerm, eachTerms, eachClause, declares, any, groundTerm}
 use Rattle.logic.specs.Fill.{Substitution, fillClause}
 use Rattle.logic.specs.StepChecks.{AllPass, Given}
+use Rattle.logic.specs.Descent.{Member, Descends, RestsOn}
 use Rattle.logic.specs.Structure.{Structure, Models, ModelsAll, Satisfies, SomeLiteral, Grounds}
 use Rattle.logic.proofs.Both.{left, right, both}
 use Rattle.logic.proofs.Steps.{all→given}
 use Rattle.logic.proofs.Entailment.{ListsOver, ClauseOver, AllGiven, ClosedUnderParents, over-before, steps-sound}
+use Rattle.logic.proofs.Descending.{descends-closed}
 use Rattle.text.specs.Form.{Reading, form, noForm}
 use Rattle.text.specs.declared.Figures.{Figures}
 use Rattle.reader.specs.State.{State, fresh, clauses, claimOf, advance, isEmpty, ordered, hasConstant, symbolsDeclared, lineChecks, after, stateAfter}
-use Rattle.verdict.specs.Checks.{readings, stepPart, checksOf, checksAt, stateOf, tableOf, inputsOf, clausesOf, Accepted}
+use Rattle.verdict.specs.Checks.{readings, stepPart, checksOf, checksAt, stateOf, tableOf, inputsOf, stepsOf, clausesOf, Accepted}
 use Rattle.verdict.specs.Means.{FirstEmpty}
+use Rattle.verdict.specs.Answer.{failure}
+use Rattle.verdict.specs.Guarantee.{chosen}
+use Rattle.verdict.proofs.Meaning.{Fails, line-fails}
 
 -- The inputs are clauses over the table, and each step is given by the rules, its lists and claim over the table.
 pub record Good (st : State) : Type 0 where
@@ -71,6 +77,16 @@ unfolding stateAfter checksAt after
 good-all F st [] g w = g
 good-all F st (form l ∷ rs) g w = good-all F (advance st l) rs (good-line F st l g (w 0)) (λ m. w (suc m))
 good-all F st (noForm ∷ rs) g w = not-a-form F st (w 0)
+
+-- The state before the first line, and after one more that passes.
+pub good-fresh : Good fresh
+unfolding fresh AllGiven eachClause
+good-fresh = record { inputs-over = λ n. tt; given = tt }
+
+pub good-after : (F : Figures) (st : State) (r : Reading) → Good st → failure st r ≡ 0 → Good (after st r)
+unfolding after Fails
+good-after F st noForm g z = g
+good-after F st (form l) g z = ⊎-elim (λ h. good-line F st l g (h .1)) (λ h. let e = h .1 in absurd (omega arith)) (line-fails F st (form l))
 
 pub accepted-good : (F : Figures) (text : List ℕ) → Accepted F text → Good (stateOf F text)
 unfolding stateOf fresh AllGiven eachClause
@@ -134,3 +150,27 @@ refuted-none F text n a e H S m =
     let g = ground-substitution (tableOf F text) (a .constant) in
     let none : Models (tableOf F text) H [] = rw (w .1) at k in
     none (g .0) (g .1) (λ h. h)
+
+-- The clauses that have these numbers are satisfied each.
+chosen-each : (table : List ℕ) (H : Atom → Type 0) (cs : List Clause) (ns : List ℕ) → ModelsAll table H (chosen ns cs) → (n : ℕ) → Member n ns → Models table H (getD cs n [])
+unfolding ModelsAll chosen Member
+chosen-each table H cs [] m n h = absurd h
+chosen-each table H cs (k ∷ ns) m n (inl e) = rw e (m .0)
+chosen-each table H cs (k ∷ ns) m n (inr h) = chosen-each table H cs ns (m .1) n h
+
+-- The first empty clause, from the inputs alone from which it descends.
+pub rests-none : (F : Figures) (text : List ℕ) (first : ℕ) (ns : List ℕ) → Accepted F text → FirstEmpty first (clausesOf F text) →
+    RestsOn (length (inputsOf F text)) (stepsOf F text) first ns → (H : Atom → Type 0) → Structure (tableOf F text) H → ModelsAll (tableOf F text) H (chosen ns (inputsOf F text)) → ⊥
+unfolding Models Satisfies fillClause SomeLiteral tableOf inputsOf stepsOf clausesOf clauses
+rests-none F text first ns a e r H S m =
+    let st = stateOf F text in
+    let g = accepted-good F text a in
+    let w = empty-clause first (clausesOf F text) e in
+    let Q : ℕ → Type 0 = Descends (length (st .inputs)) (st .steps) first in
+    let known : (n : ℕ) → n < length (st .inputs) → Q n → Models (st .symbols) H (getD (st .inputs) n []) =
+    λ n h q. chosen-each (st .symbols) H (st .inputs) ns m n (r .exactly n .1 (h, q)) in
+    let k = steps-sound H S Q (st .inputs) (st .steps) (g .inputs-over) (g .given)
+    (descends-closed (length (st .inputs)) (st .steps) first (st .inputs) 0 (st .steps) (omega arith) refl) known first (w .0) Descends.itself in
+    let y = ground-substitution (tableOf F text) (a .constant) in
+    let none : Models (tableOf F text) H [] = rw (w .1) at k in
+    none (y .0) (y .1) (λ h. h)

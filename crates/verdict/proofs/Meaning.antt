@@ -23,7 +23,7 @@ use Rattle.verdict.specs.declared.Verdict.{Verdict}
 use Rattle.verdict.specs.declared.Verdict.the-variants.{Refuted, Open, Refused}
 use Rattle.verdict.specs.Checks.{readings, tooLarge, stepPart, checksOf, checksAt, stateOf, tableOf, clausesOf, Accepted}
 use Rattle.verdict.specs.Answer.{stepFailure, failure, isNil, firstEmpty, acceptedAs, finish, readOn, verdict}
-use Rattle.verdict.specs.Means.{FirstEmpty, NoneEmpty, Refusal, large, atLine, atEnd, Means}
+use Rattle.verdict.specs.Means.{FirstEmpty, NoneEmpty, Refusal, large, atLine, atEnd, MeansVerdict}
 
 -- The number of a line's failure: 0 and all checks pass, or 2 + n and check n, counted from 0, is the first to fail.
 unfoldable pub Fails : ℕ → ℕ → List (Type 0) → Type 0
@@ -46,7 +46,7 @@ step-fails st (by s) = go (judge-means (clauses st) s)
     go (inl h) = inl (ap judgedNumber (h .0), h .1)
     go (inr h) = inr h
 
-line-fails : (F : Figures) (st : State) (r : Reading) → Fails 2 (failure st r) (checksOf st r)
+pub line-fails : (F : Figures) (st : State) (r : Reading) → Fails 2 (failure st r) (checksOf st r)
 unfolding failure checksOf lineFailure lineChecks Fails FailsFirst
 line-fails F st noForm = inr (0, refl, λ t. t)
 line-fails F st (form l) = before 2 _ true _ (before 3 _ (ordered st l) _ (before 4 _ (constantReady st l) _ (before 5 _ (withinLimits st l) _ (before 6 _ (symbolsDeclared st l) _ (step-fails st l)))))
@@ -114,33 +114,33 @@ none-or-first (suc n) (c ∷ cs) h k = none-or-first n cs (h .1) (k .1)
 
 module _ (F : Figures) (text : List ℕ) where
   -- An accepted text is answered by its clauses.
-  accepted-means : Accepted F text → Means F text (acceptedAs (length (clausesOf F text)) (firstEmpty (clausesOf F text)))
-  unfolding acceptedAs Means
+  accepted-means : Accepted F text → MeansVerdict F text (acceptedAs (length (clausesOf F text)) (firstEmpty (clausesOf F text)))
+  unfolding acceptedAs MeansVerdict
   accepted-means a = go (ltb (firstEmpty cs) (length cs)) refl
     where
       cs : List Clause
       cs = clausesOf F text
 
-      go : (b : Bool) → ltb (firstEmpty cs) (length cs) ≡ b → Means F text (cond b (Refuted (length cs) (firstEmpty cs)) (Open (length cs)))
+      go : (b : Bool) → ltb (firstEmpty cs) (length cs) ≡ b → MeansVerdict F text (cond b (Refuted (length cs) (firstEmpty cs)) (Open (length cs)))
       go true e = (a, refl, first-empty cs .0 (ltb-true (firstEmpty cs) (length cs) e))
       go false e = (a, refl, first-empty cs .1 (ltb-false (firstEmpty cs) (length cs) e))
 
-  finish-means : T (not (tooLarge F text)) → ((m : ℕ) → AllPass (checksAt fresh (readings F text) m)) → Means F text (finish (stateOf F text))
-  unfolding finish Means clausesOf tableOf
+  finish-means : T (not (tooLarge F text)) → ((m : ℕ) → AllPass (checksAt fresh (readings F text) m)) → MeansVerdict F text (finish (stateOf F text))
+  unfolding finish MeansVerdict clausesOf tableOf
   finish-means h k = go (hasConstant (stateOf F text .symbols)) refl
     where
       go : (b : Bool) → hasConstant (stateOf F text .symbols) ≡ b →
-          Means F text (cond b (acceptedAs (length (clauses (stateOf F text))) (firstEmpty (clauses (stateOf F text)))) (Refused 4 0))
+          MeansVerdict F text (cond b (acceptedAs (length (clauses (stateOf F text))) (firstEmpty (clauses (stateOf F text)))) (Refused 4 0))
       go true e = accepted-means (record { small = h; passes = k; constant = rw e tt })
       go false e = atEnd h k (rw e tt)
 
   -- The verdict means what TEXT-FORM says.
-  pub verdict-means : Means F text (verdict F text)
-  unfolding verdict Means Reads stateOf
+  pub verdict-means : MeansVerdict F text (verdict F text)
+  unfolding verdict MeansVerdict Reads stateOf
   verdict-means = go (tooLarge F text) refl (reads F fresh 1 (readings F text))
     where
       go : (b : Bool) → tooLarge F text ≡ b → Reads F fresh 1 (readings F text) (readOn fresh 1 (readings F text)) →
-          Means F text (cond b (Refused 1 0) (readOn fresh 1 (readings F text)))
+          MeansVerdict F text (cond b (Refused 1 0) (readOn fresh 1 (readings F text)))
       go true e k = large (rw e tt)
       go false e (inl k) = rw (k .0) (finish-means (rw e tt) (k .1))
       go false e (inr k) = rw (k .2) (atLine (k .0) (k .1) (rw e tt) (k .3) (k .4))
@@ -179,8 +179,8 @@ module _ (F : Figures) (text : List ℕ) where
   refused-once (atEnd h k c) (atLine n m h′ f b) = absurd (pass-or-fail n (checksAt fresh (readings F text) m) (k m) f)
   refused-once (atEnd h k c) (atEnd h′ k′ c′) = refl
 
-  means-once : (v w : Verdict) → Means F text v → Means F text w → v ≡ w
-  unfolding Means
+  means-once : (v w : Verdict) → MeansVerdict F text v → MeansVerdict F text w → v ≡ w
+  unfolding MeansVerdict
   means-once (Refuted c f) (Refuted c′ f′) h k = ap₂ Refuted (h .1 ∙ sym (k .1)) (first-empty-unique f f′ (clausesOf F text) (h .2) (k .2))
   means-once (Refuted c f) (Open c′) h k = absurd (none-or-first f (clausesOf F text) (k .2) (h .2))
   means-once (Refuted c f) (Refused n l) h k = absurd (accepted-or-refused (h .0) k)
@@ -192,5 +192,5 @@ module _ (F : Figures) (text : List ℕ) where
   means-once (Refused n l) (Refused n′ l′) h k = refused-once h k
 
   -- Of whole texts: each answer is given exactly when it is the one that is meant.
-  pub verdict-exactly : (v : Verdict) → (verdict F text ≡ v) ↔ Means F text v
-  verdict-exactly v = (λ e. subst (Means F text) e (verdict-means F text), λ h. means-once (verdict F text) v (verdict-means F text) h)
+  pub verdict-exactly : (v : Verdict) → (verdict F text ≡ v) ↔ MeansVerdict F text v
+  verdict-exactly v = (λ e. subst (MeansVerdict F text) e (verdict-means F text), λ h. means-once (verdict F text) v (verdict-means F text) h)

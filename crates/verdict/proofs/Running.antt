@@ -7,13 +7,16 @@ use native.Mathlib.Omega.{arith}
 use native.Mathlib.Numerals.{add-one}
 use native.Mathlib.Decide.{ℕ-discrete}
 use borrow.Author.Tests.{eq-eqb, ne-eqb, lt-ltb, le-ltb, ltb-true, ltb-false}
-use lib.Dec.{ltb}
-use lib.ListN.{length, getD, take, drop, length-append, length-map, length-drop, take-append-drop}
-use lib.Seq.{drop-drop}
+use lib.Dec.{T, ltb}
+use lib.ListN.{length, getD, set, take, drop, length-append, length-map, length-drop, take-append-drop}
+use lib.Seq.{drop-drop, getD-set-same, getD-set-other}
 use Rattle.logic.specs.declared.Judged.{Judged}
-use Rattle.logic.specs.Syntax.{Step, by, input}
+use Rattle.logic.specs.Syntax.{Step, Line, by, input}
 use Rattle.logic.specs.Syntax as syntax
 use Rattle.logic.specs.StepChecks.{judgedNumber}
+use Rattle.logic.proofs.Descending.{given-falls}
+use Rattle.descent.specs.declared.Parents.{Parents}
+use Rattle.descent.specs.Walk.{parentsBy, parentsOf, HeldFrom}
 use Rattle.lines.specs.declared.forms.LineAt.{LineAt}
 use Rattle.reader.specs.declared.states.HeldState as code
 use Rattle.reader.specs.declared.states.Seen.{Seen}
@@ -26,18 +29,20 @@ use Rattle.text.specs.Figures.{office, maxSymbols, UpToOffice}
 use Rattle.text.specs.Size.{lineLength, lineEndAt, endedAt}
 use Rattle.lines.specs.LineAt.{formNumber, lineOf}
 use Rattle.reader.specs.ReadLine.{withSymbol, withClause, withAdded, slotOf}
-use Rattle.reader.specs.State.{State, fresh, claimOf, clauses, advance, ordered, constantReady, withinLimits, symbolsDeclared, after}
+use Rattle.reader.specs.State.{State, fresh, claimOf, clauses, advance, isEmpty, ordered, constantReady, withinLimits, symbolsDeclared, after, stateAfter}
 use Rattle.reader.specs.Failure.{lineFailure, readFailure}
 use Rattle.reader.specs.Represents.{Represents, Begins, Sees, LineStands, Adds}
 use Rattle.text.proofs.Places.{at-byte, past}
 use Rattle.text.proofs.Sizes.{split-at, split-over, ended-length}
-use Rattle.verdict.specs.declared.Verdict.{Verdict}
+use Rattle.verdict.specs.declared.Answer.{Answer}
 use Rattle.verdict.specs.declared.Verdict.the-variants.{Refused}
 use Rattle.verdict.specs.declared.HeldClause.{HeldClause}
-use Rattle.verdict.specs.Checks.{readings}
-use Rattle.verdict.specs.Answer.{stepFailure, failure, readOn}
-use Rattle.verdict.specs.Running.{lineBytes, HeldOf, JudgesRead, FirstFailing, Finishes}
+use Rattle.verdict.specs.Checks.{readings, stateOf}
+use Rattle.verdict.specs.Means.{named}
+use Rattle.verdict.specs.Answer.{stepFailure, failure, finish, readOn, restsIn}
+use Rattle.verdict.specs.Running.{lineBytes, HeldOf, JudgesRead, FirstFailing, Parented, Finishes, Answers}
 use Rattle.verdict.proofs.Ends.{symbols-within}
+use Rattle.verdict.proofs.Entailed.{Good, good-fresh, good-after, empty-list}
 
 -- Checks 2 to 6, and then those of a step.
 unfoldable Then : ℕ → ℕ → ℕ → Type 0
@@ -189,13 +194,16 @@ clauses-after st (form (by s)) =
       length-append (st .steps) (s ∷ []),
     )
 
--- A place between two lines that is reached: what is held represents a state, there is room for a clause of each line left, and reading
--- on from that state is reading the text.
-pub record Reached (F : Figures) (text : List ℕ) (at line : ℕ) (held : code.HeldState) : Type 0 where
+-- A place between two lines that is reached: what is held represents a state that the rules give, there is room for a clause of each line
+-- left, and reading on from that state is reading the text.
+pub record Reached (F : Figures) (text : List ℕ) (at line : ℕ) (held : code.HeldState) (ps qs : List ℕ) : Type 0 where
   pub st : State
   pub holds : Represents (F .depth) text held st
+  pub parented : Parented st ps qs
+  pub good : Good st
   pub room : held .clauses + length (split (drop at text)) ≤ office .lines
   pub onward : readOn fresh 1 (readings F text) ≡ readOn st line (readings F (drop at text))
+  pub whole : stateOf F text ≡ stateAfter st (readings F (drop at text))
 
 neither : (a b : Bool) → a || b ≡ false → (a ≡ false) × (b ≡ false)
 neither true b e = absurd (true≢false e)
@@ -214,13 +222,21 @@ module _ (F : Figures) (text : List ℕ) (u : UpToOffice F) (e : tooLarge F text
       let n = ltb-false (F .lines) (length (split text)) (neither (ltb (F .bytes) (length text)) (ltb (F .lines) (length (split text))) e .1) in
       omega (arith, u .lines)
 
-  pub reached-first : (held : code.HeldState) → Begins held → Reached F text 0 1 held
-  unfolding Begins fresh clauses
-  reached-first held b =
+  pub reached-first : (held : code.HeldState) (ps qs : List ℕ) → Begins held → Reached F text 0 1 held ps qs
+  unfolding Begins fresh clauses stateOf HeldFrom
+  reached-first held ps qs b =
       let R = b (F .depth) text in
-      record { st = fresh; holds = R; room = omega (arith, lines-few, R .count); onward = refl }
+      record {
+        st = fresh;
+        holds = R;
+        parented = record { first = tt; second = tt };
+        good = good-fresh;
+        room = omega (arith, lines-few, R .count);
+        onward = refl;
+        whole = refl;
+      }
 
-module _ {F : Figures} {text : List ℕ} {at line : ℕ} {held : code.HeldState} (P : Reached F text at line held) (h : at < length text) (small : length text ≤ office .bytes)
+module _ {F : Figures} {text : List ℕ} {at line : ℕ} {held : code.HeldState} {ps qs : List ℕ} (P : Reached F text at line held ps qs) (h : at < length text) (small : length text ≤ office .bytes)
     {n : ℕ} (N : n ≡ failure (P .st) (readLine (F .depth) (lineBytes text at))) where
   raw-failure : (raw : Raw) (raws : List Raw) → split (drop at text) ≡ raw ∷ raws → n ≡ failure (P .st) (readRaw (F .depth) raw)
   raw-failure raw raws q = N ∙ ap (failure (P .st)) (sym (raw-read (F .depth) text at h raw raws q))
@@ -229,8 +245,12 @@ module _ {F : Figures} {text : List ℕ} {at line : ℕ} {held : code.HeldState}
   unfolding readings readOn
   refused raw raws q z = rw (q, ← raw-failure raw raws q, ne-eqb n 0 z)
 
-  pub line-refused : (n ≡ 0 → ⊥) → Refused n line ≡ readOn fresh 1 (readings F text)
+  line-refused : (n ≡ 0 → ⊥) → Refused n line ≡ readOn fresh 1 (readings F text)
   line-refused z = let (raw, raws, q) = some-line (F .depth) text at h in sym (P .onward ∙ refused raw raws q z)
+
+  pub refused-answer : (n ≡ 0 → ⊥) → (r : Answer) → r .verdict ≡ Refused n line → named (r .rests) ≡ [] → Answers F text r
+  unfolding Answers restsIn
+  refused-answer z r e g = let w = line-refused z in (e ∙ w, g ∙ ap (restsIn (stateOf F text)) w)
 
   line-is-ended : n ≡ 0 → endedAt text at ≡ true
   unfolding failure
@@ -262,26 +282,31 @@ module _ {F : Figures} {text : List ℕ} {at line : ℕ} {held : code.HeldState}
   unfolding readings readOn
   went-on raw raws q z = rw (q, ← raw-failure raw raws q, eq-eqb n 0 z)
 
-  module _ (a : Added) (z : n ≡ 0) (A : Represents (F .depth) text (withAdded held a) (after (P .st) (readLine (F .depth) (lineBytes text at)))) where
-    reached-after : Reached F text (lineEndAt text at + 1) (line + 1) (withAdded held a)
-    unfolding readings
+  module _ (a : Added) (z : n ≡ 0) (A : Represents (F .depth) text (withAdded held a) (after (P .st) (readLine (F .depth) (lineBytes text at))))
+      {ps′ qs′ : List ℕ} (B : Parented (after (P .st) (readLine (F .depth) (lineBytes text at))) ps′ qs′) where
+    reached-after : Reached F text (lineEndAt text at + 1) (line + 1) (withAdded held a) ps′ qs′
+    unfolding readings stateAfter
     reached-after =
         let raw = ended (take (lineEndAt text at - at) (drop at text)) in
         let raws = split (drop (lineEndAt text at + 1) text) in
         let q : split (drop at text) ≡ raw ∷ raws = split-ended text at h (line-is-ended z) in
-        let R : Represents (F .depth) text (withAdded held a) (after (P .st) (readRaw (F .depth) raw)) = rw (raw-read (F .depth) text at h raw raws q) A in
+        let e = raw-read (F .depth) text at h raw raws q in
+        let R : Represents (F .depth) text (withAdded held a) (after (P .st) (readRaw (F .depth) raw)) = rw e A in
         record {
           st = after (P .st) (readRaw (F .depth) raw);
           holds = R;
+          parented = rw e B;
+          good = rw e (good-after F (P .st) (readLine (F .depth) (lineBytes text at)) (P .good) (sym N ∙ z));
           room = omega (arith, R .count, P .holds .count, P .room, ap length q, clauses-after (P .st) (readRaw (F .depth) raw));
           onward = P .onward ∙ went-on raw raws q z ∙ rw (add-one line);
+          whole = P .whole ∙ rw q;
         }
 
-    pub symbol-reached : a .symbol ≡ true → Reached F text (lineEndAt text at + 1) (line + 1) (withSymbol held (a .k))
+    pub symbol-reached : a .symbol ≡ true → Reached F text (lineEndAt text at + 1) (line + 1) (withSymbol held (a .k)) ps′ qs′
     unfolding withAdded
     symbol-reached b = rw b at reached-after
 
-    pub clause-reached : a .symbol ≡ false → Reached F text (lineEndAt text at + 1) (line + 1) (withClause held (a .start) (a .literals) (a .width) (a .inputs))
+    pub clause-reached : a .symbol ≡ false → Reached F text (lineEndAt text at + 1) (line + 1) (withClause held (a .start) (a .literals) (a .width) (a .inputs)) ps′ qs′
     unfolding withAdded
     clause-reached b = rw b at reached-after
 
@@ -289,6 +314,42 @@ module _ {F : Figures} {text : List ℕ} {at line : ℕ} {held : code.HeldState}
     symbol-room b =
         let R = symbol-reached b .holds in
         omega (arith, symbols-within R, R .counts-room)
+
+-- The parents that a line uses are held with the others.
+held-last : (f : Step → ℕ) (n : ℕ) (ps : List ℕ) (ss : List Step) (s : Step) → HeldFrom f n ps ss → getD ps (n + length ss) 0 ≡ f s → HeldFrom f n ps (ss ++ (s ∷ []))
+unfolding HeldFrom
+held-last f n ps [] s w e = let z : n + 0 ≡ n = omega arith in (rw z at e, tt)
+held-last f n ps (t ∷ ss) s w e = let z : n + suc (length ss) ≡ suc n + length ss = omega arith in (w .0, held-last f (suc n) ps ss s (w .1) (rw z at e))
+
+held-set : (f : Step → ℕ) (n : ℕ) (ps : List ℕ) (ss : List Step) (m x : ℕ) → n + length ss ≤ m → HeldFrom f n ps ss → HeldFrom f n (set ps m x) ss
+unfolding HeldFrom
+held-set f n ps [] m x h w = tt
+held-set f n ps (s ∷ ss) m x h w = (getD-set-other ps m n x 0 (λ e. absurd (omega arith)) ∙ w .0, held-set f (suc n) ps ss m x (omega arith) (w .1))
+
+clause-count : (st : State) → length (clauses st) ≡ length (st .inputs) + length (st .steps)
+unfolding clauses
+clause-count st = length-append (st .inputs) (map claimOf (st .steps)) ∙ rw (length-map (st .steps) claimOf)
+
+in-order : (st : State) (l : Line) → readFailure st (form l) ≡ 0 → T (ordered st l)
+unfolding readFailure lineFailure
+in-order st l z = go (ordered st l) z
+  where
+    go : (b : Bool) → _≡_ {A = ℕ} (cond b (cond (constantReady st l) (cond (withinLimits st l) (cond (symbolsDeclared st l) 0 6) 5) 4) 3) 0 → T b
+    go true e = tt
+    go false e = absurd (omega arith)
+
+-- One of the two lists, after a line that passes.
+held-after : (f : Step → ℕ) (st : State) (r : Reading) (ps : List ℕ) (x : ℕ) → readFailure st r ≡ 0 → length (clauses st) < length ps →
+    ((s : Step) → r ≡ form (by s) → x ≡ f s) → HeldFrom f (length (st .inputs)) ps (st .steps) →
+    HeldFrom f (length (after st r .inputs)) (set ps (length (clauses st)) x) (after st r .steps)
+unfolding after advance readFailure ordered HeldFrom
+held-after f st noForm ps x z l e w = absurd (omega arith)
+held-after f st (form (syntax.sym k)) ps x z l e w = held-set f (length (st .inputs)) ps (st .steps) (length (clauses st)) x (omega (arith, clause-count st)) w
+held-after f st (form (input c)) ps x z l e w = rw (empty-list (st .steps) (in-order st (input c) z)) tt
+held-after f st (form (by s)) ps x z l e w =
+    held-last f (length (st .inputs)) (set ps (length (clauses st)) x) (st .steps) s
+    (held-set f (length (st .inputs)) ps (st .steps) (length (clauses st)) x (omega (arith, clause-count st)) w)
+    (rw (← clause-count st) (getD-set-same ps (length (clauses st)) x 0 l ∙ e s refl))
 
 -- A line that passes checks 2 to 11 passes 2 to 6.
 read-passes : (st : State) (r : Reading) → failure st r ≡ 0 → readFailure st r ≡ 0
@@ -298,8 +359,12 @@ read-passes st r z = go (ℕ-discrete (readFailure st r) 0)
     go (yes e) = e
     go (no n) = sym (failed-then st r n) ∙ z
 
+step-parents : (table bytes : List ℕ) (t : Step) {l : LineAt} → l ≡ lineOf table bytes (form (by t)) → parentsBy (l .rule) (l .a) (l .b) ≡ parentsOf t
+unfolding lineOf
+step-parents table bytes t e = rw e
+
 -- The line from a place that is reached on, as the code sees it, with what it holds of the clauses that the line names.
-module _ {F : Figures} {text : List ℕ} {at line : ℕ} {held : code.HeldState} (P : Reached F text at line held) {bytes : List ℕ}
+module _ {F : Figures} {text : List ℕ} {at line : ℕ} {held : code.HeldState} {ps qs : List ℕ} (P : Reached F text at line held ps qs) {bytes : List ℕ}
     (e : bytes ≡ lineBytes text at) (s : Seen) (S : Sees (F .depth) (held .counts) (held .symbols) (held .clauses) (held .inputs) bytes s) where
   read : (s .failure ≡ readFailure (P .st) (readLine (F .depth) bytes)) × (s .line ≡ lineOf (P .st .symbols) bytes (readLine (F .depth) bytes))
   unfolding Sees
@@ -310,6 +375,19 @@ module _ {F : Figures} {text : List ℕ} {at line : ℕ} {held : code.HeldState}
   unfolding FirstFailing
   line-number a b ha hb n f =
       rw (← e) (f held (P .st) (P .holds) refl ha hb (read .0) (read .1))
+
+  pub line-parented : {n : ℕ} → n ≡ failure (P .st) (readLine (F .depth) (lineBytes text at)) → n ≡ 0 → held .clauses < office .lines → (p : Parents) →
+      p ≡ parentsBy (s .line .rule) (s .line .a) (s .line .b) → length ps ≡ office .lines → length qs ≡ office .lines →
+      Parented (after (P .st) (readLine (F .depth) (lineBytes text at))) (set ps (held .clauses) (p .a)) (set qs (held .clauses) (p .b))
+  line-parented N z room p g lp lq =
+      let st = P .st in
+      let r = readLine (F .depth) (lineBytes text at) in
+      let z′ = read-passes st r (sym N ∙ z) in
+      let told : (t : Step) → r ≡ form (by t) → p ≡ parentsOf t = λ t k. g ∙ step-parents (st .symbols) bytes t (read .1 ∙ ap (lineOf (st .symbols) bytes) (ap (readLine (F .depth)) e ∙ k)) in
+      rw (P .holds .count) (record {
+        first = held-after (λ t. parentsOf t .a) st r ps (p .a) z′ (omega (arith, P .holds .count)) (λ t k. ap (λ (x : Parents). x .a) (told t k)) (P .parented .first);
+        second = held-after (λ t. parentsOf t .b) st r qs (p .b) z′ (omega (arith, P .holds .count)) (λ t k. ap (λ (x : Parents). x .b) (told t k)) (P .parented .second);
+      })
 
   pub line-added : {n : ℕ} → n ≡ failure (P .st) (readLine (F .depth) (lineBytes text at)) → n ≡ 0 → LineStands text at (lineBytes text at) held → (a : Added) →
       Adds at (held .inputs) (s .line) a → Represents (F .depth) text (withAdded held a) (after (P .st) (readLine (F .depth) (lineBytes text at)))
@@ -333,23 +411,30 @@ held-of held n {k} l e f h =
     let q : k ≡ n = e ∙ rw (lt-ltb n (office .lines) (omega arith)) in
     rw (f, q) (refl, refl, refl)
 
-pub reached-as : {F : Figures} {text : List ℕ} {p q line : ℕ} {held next : code.HeldState} → Reached F text p line held → q ≡ p → next ≡ held → Reached F text q line next
+pub reached-as : {F : Figures} {text : List ℕ} {p q line : ℕ} {held next : code.HeldState} {ps qs : List ℕ} → Reached F text p line held ps qs → q ≡ p → next ≡ held → Reached F text q line next ps qs
 reached-as P e f = rw (e, f) P
 
 -- What is known of a line once its number is: it begins at a place that is reached.
-pub record LineRead (F : Figures) (text : List ℕ) (at line : ℕ) (held : code.HeldState) (s : Seen) (n : ℕ) : Type 0 where
+pub record LineRead (F : Figures) (text : List ℕ) (at line : ℕ) (held : code.HeldState) (ps qs : List ℕ) (s : Seen) (n : ℕ) : Type 0 where
   pub here : at < length text
   pub small : length text ≤ office .bytes
-  pub reached : Reached F text at line held
+  pub reached : Reached F text at line held ps qs
   pub number : n ≡ failure (reached .st) (readLine (F .depth) (lineBytes text at))
   pub added : n ≡ 0 → (a : Added) → Adds at (held .inputs) (s .line) a →
       Represents (F .depth) text (withAdded held a) (after (reached .st) (readLine (F .depth) (lineBytes text at)))
+  pub parents : n ≡ 0 → (p : Parents) → p ≡ parentsBy (s .line .rule) (s .line .a) (s .line .b) →
+      Parented (after (reached .st) (readLine (F .depth) (lineBytes text at))) (set ps (held .clauses) (p .a)) (set qs (held .clauses) (p .b))
 
-module _ {F : Figures} {text : List ℕ} {at line : ℕ} {held : code.HeldState} (P : Reached F text at line held) where
+module _ {F : Figures} {text : List ℕ} {at line : ℕ} {held : code.HeldState} {ps qs : List ℕ} (P : Reached F text at line held ps qs) where
   pub held-within : held .clauses ≤ office .lines
   held-within = omega (arith, P .room)
 
   -- All lines are read.
-  pub reached-end : length text ≤ at → (v : Verdict) → Finishes held v → v ≡ readOn fresh 1 (readings F text)
-  unfolding Finishes readings split readOn
-  reached-end h v f = f (F .depth) text (P .st) (P .holds) ∙ sym (P .onward ∙ rw (past text at h))
+  pub reached-end : length text ≤ at → (r : Answer) → Finishes held ps qs r → Answers F text r
+  unfolding Finishes Answers readings split readOn stateAfter
+  reached-end h r f =
+      let st = P .st in
+      let w = f (F .depth) text st (P .holds) (P .parented) (given-falls (st .symbols) (st .inputs) (st .steps) (P .good .given)) in
+      let e : readOn fresh 1 (readings F text) ≡ finish st = P .onward ∙ rw (past text at h) in
+      let g : stateOf F text ≡ st = P .whole ∙ rw (past text at h) in
+      (w .0 ∙ sym e, w .1 ∙ rw (g, e))

@@ -3,7 +3,7 @@ use Prim.Native.Nat.{ℕ}
 use mathlib.Core.List.{List, [], _∷_}
 use mathlib.Core.Bool.{true}
 use mathlib.Core.Logic.{inl}
-use mathlib.Core.Path.{_≡_, sym, subst₂}
+use mathlib.Core.Path.{_≡_, refl, sym, subst₂}
 use lib.Dec.{T}
 use Rattle.logic.specs.Syntax.{Atom, Clause}
 use Rattle.logic.specs.Terms.{count, termsOf}
@@ -16,15 +16,14 @@ use Rattle.text.specs.declared.Figures.{Figures}
 use Rattle.text.specs.Figures.{office}
 use Rattle.verdict.specs.declared.Verdict.the-variants.{Refuted}
 use Rattle.verdict.specs.Checks.{tableOf, inputsOf}
-use Rattle.verdict.specs.Answer.{verdict}
+use Rattle.verdict.specs.Answer.{verdict, rests}
 use Rattle.verdict.proofs.Examples.{refutedText, openText, refusedText, modelled}
 use Rattle.verdict.proofs.Corners.{computed}
-use Rattle.verdict.proofs.Meaning.{verdict-means}
-use Rattle.verdict.proofs.Guaranteed.{whole-claim}
+use Rattle.verdict.proofs.Guaranteed.{answer-exactly, whole-claim}
 
 pub modelled-not-refuted : (F : Figures) (text : List ℕ) (H : Atom → Type 0) → Structure (tableOf F text) H →
     ModelsAll (tableOf F text) H (inputsOf F text) → (count first : ℕ) → verdict F text ≡ Refuted count first → ⊥
-modelled-not-refuted F text H S m count first e = whole-claim F text (verdict F text) (verdict-means F text) .sound H .refuted count first e S m
+modelled-not-refuted F text H S m count first e = whole-claim F text (verdict F text) (rests F text) (answer-exactly F text (verdict F text) (rests F text) .0 (refl, refl)) .sound H .refuted count first e S m
 
 -- refuted: no structure satisfies the inputs.
 pub refuted-example : (H : Atom → Type 0) → Structure (tableOf office refutedText) H → ModelsAll (tableOf office refutedText) H (inputsOf office refutedText) → ⊥

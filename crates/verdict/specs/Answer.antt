@@ -1,5 +1,5 @@
--- The verdict as a function of a text's bytes. Nothing here has to be believed: `verdict-exactly` (proofs/Meaning) says that it gives v
--- exactly where v is meant (Means).
+-- The answer as a function of a text's bytes. Nothing here has to be believed: `answer-exactly` (proofs/Guaranteed) says that it gives a
+-- verdict and numbers exactly where they are meant (Means).
 use Prim.Native.Nat.{ℕ, suc}
 use mathlib.Core.Bool.{Bool, true, false, cond}
 use mathlib.Core.List.{List, [], _∷_}
@@ -8,13 +8,14 @@ use lib.ListN.{length}
 use Rattle.logic.specs.Syntax.{Clause, Line, sym, input, by}
 use Rattle.logic.specs.StepChecks.{judgedNumber}
 use Rattle.logic.specs.Judge.{judge}
+use Rattle.logic.specs.Reach.{restsOn}
 use Rattle.text.specs.Form.{Reading, form, noForm}
 use Rattle.text.specs.declared.Figures.{Figures}
 use Rattle.reader.specs.State.{State, fresh, clauses, hasConstant, after}
 use Rattle.reader.specs.Failure.{lineFailure}
 use Rattle.verdict.specs.declared.Verdict.{Verdict}
 use Rattle.verdict.specs.declared.Verdict.the-variants.{Refuted, Open, Refused}
-use Rattle.verdict.specs.Checks.{readings, tooLarge}
+use Rattle.verdict.specs.Checks.{readings, tooLarge, stateOf}
 
 -- The number of the first of checks 2 to 11 that fails at a line, 0 where none does.
 unfoldable pub stepFailure : State → Line → ℕ
@@ -53,3 +54,12 @@ unfoldable pub verdict : Figures → List ℕ → Verdict
 verdict F text =
     let read = readOn fresh 1 (readings F text) in
     cond (tooLarge F text) (Refused 1 0) read
+
+-- The inputs on which a refutation rests, by what the text says.
+unfoldable pub restsIn : State → Verdict → List ℕ
+restsIn st (Refuted count first) = restsOn (length (st .inputs)) (st .steps) first
+restsIn st (Open count) = []
+restsIn st (Refused number line) = []
+
+unfoldable pub rests : Figures → List ℕ → List ℕ
+rests F text = restsIn (stateOf F text) (verdict F text)

@@ -3,7 +3,7 @@ use Prim.Native.Nat.{ℕ, zero, suc}
 use mathlib.Core.Bool.{not}
 use mathlib.Core.List.{List, [], _∷_, _++_, map}
 use lib.Dec.{T}
-use Rattle.logic.specs.Syntax.{Clause, Line, sym, input, by}
+use Rattle.logic.specs.Syntax.{Clause, Step, Line, sym, input, by}
 use Rattle.logic.specs.StepChecks.{AllPass, stepChecks}
 use Rattle.text.specs.Form.{Reading, form, noForm}
 use Rattle.text.specs.Read.{readRaw}
@@ -33,7 +33,8 @@ checksAt st [] m = []
 checksAt st (r ∷ rs) zero = checksOf st r
 checksAt st (r ∷ rs) (suc m) = checksAt (after st r) rs m
 
--- What a text says, as a function of its bytes: the state after its lines (T19), its symbol table (T7), inputs (T8) and clauses (T17).
+-- What a text says, as a function of its bytes: the state after its lines (T19), its symbol table (T7), inputs (T8), steps (T9) and
+-- clauses (T17).
 unfoldable pub stateOf : Figures → List ℕ → State
 stateOf F text = stateAfter fresh (readings F text)
 
@@ -42,6 +43,9 @@ tableOf F text = stateOf F text .symbols
 
 unfoldable pub inputsOf : Figures → List ℕ → List Clause
 inputsOf F text = stateOf F text .inputs
+
+unfoldable pub stepsOf : Figures → List ℕ → List Step
+stepsOf F text = stateOf F text .steps
 
 unfoldable pub clausesOf : Figures → List ℕ → List Clause
 clausesOf F text = clauses (stateOf F text)

@@ -1,4 +1,4 @@
--- TEXT-FORM, "Corners": C1 to C10 as texts with their verdicts.
+-- TEXT-FORM, "Corners": C1 to C10 as texts with their answers.
 use Prim.Native.Nat.{ℕ}
 use Prim.Native.String.{String}
 use mathlib.Core.List.{List, [], _∷_, _++_}
@@ -20,31 +20,35 @@ chain last =
     ∷ "(in (or (+ (mem (f 0) (f 1)))))" ∷ "(in (or (+ (sub (f 1) (f 2)))))" ∷ "(in (or (- (mem (v 0) (f 2)))))"
     ∷ "(by inc 0 0 1 0 0 (let) (let) (or (+ (mem (f 0) (f 2)))))" ∷ last ∷ []
 
--- A row of C1 to C10: the text and the line.
+-- A row of C1 to C10: the text, the verdict and the inputs that are named.
 infix 10 _gives_
-abbrev pub _gives_ : List String → Verdict → List String × Verdict
-_gives_ lines v = (lines, v)
+abbrev pub _gives_ : List String → Verdict × List ℕ → List String × (Verdict × List ℕ)
+_gives_ lines answer = (lines, answer)
+
+infix 11 _resting_
+abbrev pub _resting_ : Verdict → List ℕ → Verdict × List ℕ
+_resting_ v ns = (v, ns)
 
 -- C1 to C10, in this order: C2 is C1 "with `(let (f 1))` in the last line", C3 "the empty text", C4 "C1's three sym lines".
-unfoldable pub corners : List (List String × Verdict)
+unfoldable pub corners : List (List String × (Verdict × List ℕ))
 corners =
-    (chain "(by res 2 0 3 0 0 (let (f 0)) (let) (or))" gives Refuted 5 4)
-    ∷ (chain "(by res 2 0 3 0 0 (let (f 1)) (let) (or))" gives Refused 10 8)
-    ∷ ([] gives Refused 4 0)
-    ∷ ("(sym 0)" ∷ "(sym 0)" ∷ "(sym 0)" ∷ [] gives Open 0)
-    ∷ ("(sym 1)" ∷ "(in (or))" ∷ [] gives Refused 4 2)
-    ∷ ("(sym 0)" ∷ "(in (or))" ∷ [] gives Refuted 1 0)
+    (chain "(by res 2 0 3 0 0 (let (f 0)) (let) (or))" gives Refuted 5 4 resting 0 ∷ 1 ∷ 2 ∷ [])
+    ∷ (chain "(by res 2 0 3 0 0 (let (f 1)) (let) (or))" gives Refused 10 8 resting [])
+    ∷ ([] gives Refused 4 0 resting [])
+    ∷ ("(sym 0)" ∷ "(sym 0)" ∷ "(sym 0)" ∷ [] gives Open 0 resting [])
+    ∷ ("(sym 1)" ∷ "(in (or))" ∷ [] gives Refused 4 2 resting [])
+    ∷ ("(sym 0)" ∷ "(in (or))" ∷ [] gives Refuted 1 0 resting 0 ∷ [])
     ∷ ("(sym 0)" ∷ "(in (or (+ (sv (f 0) (f 0) ((f 0)) (f 0)))))" ∷ "(in (or (+ (sv (f 0) (f 0) ((f 0) (f 0)) (f 0)))))"
-    ∷ "(by sca 0 0 1 0 0 (let) (let) (or (+ (eq (f 0) (f 0)))))" ∷ [] gives Refused 10 4)
+    ∷ "(by sca 0 0 1 0 0 (let) (let) (or (+ (eq (f 0) (f 0)))))" ∷ [] gives Refused 10 4 resting [])
     ∷ ("(sym 0)" ∷ "(in (or (+ (mv (f 0) (f 0) () (f 0)))))" ∷ "(in (or (- (mv (f 0) (f 0) () none))))"
-    ∷ "(by res 1 0 0 0 0 (let) (let) (or))" ∷ [] gives Refuted 3 2)
+    ∷ "(by res 1 0 0 0 0 (let) (let) (or))" ∷ [] gives Refuted 3 2 resting 0 ∷ 1 ∷ [])
     ∷ ("(sym 0)" ∷ "(in (or (- (mv (f 0) (f 0) () (f 0)))))" ∷ "(in (or (+ (mv (f 0) (f 0) () none))))"
-    ∷ "(by res 0 0 1 0 0 (let) (let) (or))" ∷ [] gives Refused 10 4)
+    ∷ "(by res 0 0 1 0 0 (let) (let) (or))" ∷ [] gives Refused 10 4 resting [])
     ∷ ("(sym 0)" ∷ "(sym 0)" ∷ "(in (or (+ (mem (v 0) (f 0)))))" ∷ "(in (or (- (mem (f 1) (v 0)))))"
-    ∷ "(by res 1 0 0 0 0 (let (f 0)) (let (f 1)) (or))" ∷ [] gives Refuted 3 2)
+    ∷ "(by res 1 0 0 0 0 (let (f 0)) (let (f 1)) (or))" ∷ [] gives Refuted 3 2 resting 0 ∷ 1 ∷ [])
     ∷ []
 
--- C1 to C10: each corner's verdict is the one that its text is given (V1 to V3).
-unfoldable pub AllMeant : List (List String × Verdict) → Type 0
+-- C1 to C10: each corner's answer is the one that its text is given (V1 to V3, V30).
+unfoldable pub AllMeant : List (List String × (Verdict × List ℕ)) → Type 0
 AllMeant [] = Unit
-AllMeant ((lines, v) ∷ cs) = Means office (textOf lines) v × AllMeant cs
+AllMeant ((lines, (v, ns)) ∷ cs) = Means office (textOf lines) v ns × AllMeant cs

@@ -1,11 +1,12 @@
--- What a verdict means for H-structures (V23, V24) and derivations (V25): "one claim, about every text, broken or not, and about exactly
--- this verdict" (V26).
+-- What an answer means for H-structures (V23, V24, V32) and derivations (V25): "one claim, about every text, broken or not, and about
+-- exactly this answer" (V26).
 use Prim.Native.Nat.{ℕ}
 use mathlib.Core.Bool.{Bool, true, false, not}
 use mathlib.Core.List.{List, [], _∷_}
 use mathlib.Core.Path.{_≡_}
 use lib.Dec.{T}
-use Rattle.logic.specs.Syntax.{Atom, Line}
+use lib.ListN.{getD}
+use Rattle.logic.specs.Syntax.{Atom, Clause, Line}
 use Rattle.logic.specs.Structure.{Structure, ModelsAll}
 use Rattle.logic.specs.Derivation.{Derivation, WrittenForm}
 use Rattle.text.specs.Write.{writeLines}
@@ -43,8 +44,13 @@ pub record WrittenText (F : Figures) (text : List ℕ) : Type 0 where
   pub bytes : text ≡ writeLines lines
   pub within : Within F lines
 
--- V23, V24: of one set of atoms H, what the verdict on a text says.
-pub record SoundFor (H : Atom → Type 0) (F : Figures) (text : List ℕ) (v : Verdict) : Type 0 where
+-- V32: the clauses that have these numbers.
+unfoldable pub chosen : List ℕ → List Clause → List Clause
+chosen [] cs = []
+chosen (n ∷ ns) cs = getD cs n [] ∷ chosen ns cs
+
+-- V23, V24, V32: of one set of atoms H, what the answer to a text says, the numbers of the inputs that it names given.
+pub record SoundFor (H : Atom → Type 0) (F : Figures) (text : List ℕ) (v : Verdict) (ns : List ℕ) : Type 0 where
   -- V23: "If a text is refuted, no H-structure over its symbol table satisfies all ground instances of its input clauses."
   pub refuted : (count first : ℕ) → v ≡ Refuted count first →
       Structure (tableOf F text) H → ModelsAll (tableOf F text) H (inputsOf F text) → ⊥
@@ -52,14 +58,17 @@ pub record SoundFor (H : Atom → Type 0) (F : Figures) (text : List ℕ) (v : V
   -- satisfies every ground instance of every clause of the text."
   pub entailed : T (isAccepted v) →
       Structure (tableOf F text) H → ModelsAll (tableOf F text) H (inputsOf F text) → ModelsAll (tableOf F text) H (clausesOf F text)
+  -- V32: "If a text is refuted, no H-structure over its symbol table satisfies all ground instances of the named inputs alone."
+  pub rests : (count first : ℕ) → v ≡ Refuted count first →
+      Structure (tableOf F text) H → ModelsAll (tableOf F text) H (chosen ns (inputsOf F text)) → ⊥
 
 -- V26: the whole claim, "about every text, broken or not", and every set of atoms (`whole-claim`).
-pub record WholeClaim (F : Figures) (text : List ℕ) (v : Verdict) : Type 1 where
-  pub sound : (H : Atom → Type 0) → SoundFor H F text v
+pub record WholeClaim (F : Figures) (text : List ℕ) (v : Verdict) (ns : List ℕ) : Type 1 where
+  pub sound : (H : Atom → Type 0) → SoundFor H F text v ns
   -- V25: "A text is accepted if it lies within the limits and is the written form of a finite derivation by the rules".
   pub accepts : WrittenText F text → T (isAccepted v)
 
 -- V26: the claim on the call, for the sets that are given by a test: a contract's fact is small, and "every set of atoms" is not.
-pub record Guarantee (F : Figures) (text : List ℕ) (v : Verdict) : Type 0 where
-  pub sound : (S : Atom → Bool) → SoundFor (λ x. T (S x)) F text v
+pub record Guarantee (F : Figures) (text : List ℕ) (v : Verdict) (ns : List ℕ) : Type 0 where
+  pub sound : (S : Atom → Bool) → SoundFor (λ x. T (S x)) F text v ns
   pub accepts : WrittenText F text → T (isAccepted v)

@@ -4,23 +4,28 @@ use Prim.Native.Nat.{ℕ, _-_, _<_}
 use mathlib.Core.Bool.{cond}
 use mathlib.Core.List.{List, []}
 use mathlib.Core.Path.{_≡_}
-use lib.ListN.{getD, take, drop}
+use lib.ListN.{length, getD, take, drop}
 use Rattle.reader.specs.declared.states.HeldState as code
 use Rattle.reader.specs.declared.states.Seen.{Seen}
 use Rattle.logic.specs.declared.Judged.{Judged}
 use Rattle.logic.specs.Syntax.{Step, by}
 use Rattle.logic.specs.Judge.{judge}
+use Rattle.logic.specs.Reach.{ParentsFall}
+use Rattle.descent.specs.Walk.{parentsOf, HeldFrom}
 use Rattle.lines.specs.declared.forms.LineAt.{LineAt}
 use Rattle.lines.specs.LineAt.{lineOf}
+use Rattle.text.specs.declared.Figures.{Figures}
 use Rattle.text.specs.Form.{form}
 use Rattle.text.specs.Read.{readLine}
 use Rattle.text.specs.Size.{lineEndAt, endedAt}
-use Rattle.reader.specs.State.{State, clauses}
+use Rattle.reader.specs.State.{State, fresh, clauses}
 use Rattle.reader.specs.Represents.{Represents}
 use Rattle.reader.specs.Failure.{readFailure}
-use Rattle.verdict.specs.declared.Verdict.{Verdict}
+use Rattle.verdict.specs.declared.Answer.{Answer}
 use Rattle.verdict.specs.declared.HeldClause.{HeldClause}
-use Rattle.verdict.specs.Answer.{failure, firstEmpty, finish}
+use Rattle.verdict.specs.Checks.{readings, stateOf}
+use Rattle.verdict.specs.Means.{named}
+use Rattle.verdict.specs.Answer.{failure, firstEmpty, finish, readOn, restsIn}
 
 -- The bytes of the line that begins at a place, if it is ended; none, which are no form either, if it is not.
 unfoldable pub lineBytes : List ℕ → ℕ → List ℕ
@@ -50,5 +55,18 @@ FirstFailing depth text own a b line seen r =
 unfoldable pub FindsEmpty : code.HeldState → ℕ → Type 0
 FindsEmpty held n = (depth : ℕ) (text : List ℕ) (st : State) → Represents depth text held st → n ≡ firstEmpty (clauses st)
 
-unfoldable pub Finishes : code.HeldState → Verdict → Type 0
-Finishes held v = (depth : ℕ) (text : List ℕ) (st : State) → Represents depth text held st → v ≡ finish st
+-- The parents that each step uses are held by its number.
+pub record Parented (st : State) (ps qs : List ℕ) : Type 0 where
+  pub first : HeldFrom (λ s. parentsOf s .a) (length (st .inputs)) ps (st .steps)
+  pub second : HeldFrom (λ s. parentsOf s .b) (length (st .inputs)) qs (st .steps)
+
+unfoldable pub Finishes : code.HeldState → List ℕ → List ℕ → Answer → Type 0
+Finishes held ps qs r =
+    (depth : ℕ) (text : List ℕ) (st : State) → Represents depth text held st → Parented st ps qs →
+    ParentsFall (length (st .inputs)) (st .steps) →
+    (r .verdict ≡ finish st) × (named (r .rests) ≡ restsIn st (finish st))
+
+-- Of the lines of a text.
+unfoldable pub Answers : Figures → List ℕ → Answer → Type 0
+Answers F text r =
+    (r .verdict ≡ readOn fresh 1 (readings F text)) × (named (r .rests) ≡ restsIn (stateOf F text) (readOn fresh 1 (readings F text)))

@@ -1,5 +1,7 @@
-// The verdict of a text: its lines are read and judged one after the other, and where none fails the clauses are counted.
+// The answer to a text: its lines are read and judged one after the other, and where none fails the clauses are counted.
 
+use descent::rests;
+use descent::used_parents;
 use lines::forms::LineAt;
 use lines::forms::STEP;
 use lines::forms::form_number;
@@ -24,16 +26,16 @@ use text::LINES;
 ghost use Prim.Native.Nat.{_≤_, _<_};
 ghost use mathlib.Core.Path.{_≡_};
 ghost use mathlib.Core.Bool.{false};
+ghost use mathlib.Core.List.{[]};
 ghost use lib.ListN.{length};
 ghost use Rattle.logic.specs.StepChecks.{judgedNumber};
 ghost use Rattle.text.specs.Figures.{office, UpToOffice};
 ghost use Rattle.text.specs.Size.{lineEndAt};
-ghost use Rattle.reader.specs.State.{fresh as freshly};
-ghost use Rattle.verdict.specs.Checks.{readings, tooLarge};
-ghost use Rattle.verdict.specs.Means.{Means};
-ghost use Rattle.verdict.specs.Answer.{readOn, verdict};
+ghost use Rattle.verdict.specs.Checks.{tooLarge};
+ghost use Rattle.verdict.specs.Means.{Means, named};
+ghost use Rattle.verdict.specs.Answer.{verdict, rests};
 ghost use Rattle.verdict.specs.Guarantee.{Guarantee};
-ghost use Rattle.verdict.specs.Running.{lineBytes, JudgesRead, FirstFailing, FindsEmpty, Finishes};
+ghost use Rattle.verdict.specs.Running.{lineBytes, JudgesRead, FirstFailing, FindsEmpty, Finishes, Answers};
 
 // What is found of a text.
 pub enum Verdict {
@@ -45,9 +47,10 @@ pub enum Verdict {
     Refused { number: usize, line: usize },
 }
 
-// The answer to a text.
+// The answer to a text: the verdict, and the inputs on which a refutation rests, by clause number.
 pub struct Answer {
     pub verdict: Verdict,
+    pub rests: [bool; LINES],
 }
 
 // What the reading holds of a clause: its place, its number of literals and its width.
@@ -159,28 +162,41 @@ fn first_empty(state: HeldState) -> usize
     n
 }
 
-// All lines have passed.
-fn finish(state: HeldState) -> Verdict
+// An answer that names no input.
+fn plain(verdict: Verdict) -> Answer
+    ensures { λ r. ⌜ (r .verdict ≡ verdict) × (named (r .rests) ≡ []) ⌝ }
+{
+    let rests = [false; LINES];
+    Answer { verdict, rests }
+}
+
+// All lines have passed. Of each step the parents that it uses are held in a and b.
+fn finish(state: HeldState, a: &[u16; LINES], b: &[u16; LINES]) -> Answer
     requires { ⌜ state .clauses ≤ office .lines ⌝ }
-    ensures { λ r. ⌜ Finishes state r ⌝ }
+    ensures { λ r. ⌜ Finishes state (now (a .entry)) (now (b .entry)) r ⌝ }
 {
     if !has_constant(table(&state.counts, state.symbols)) {
-        return Verdict::Refused { number: 4, line: 0 };
+        return plain(Verdict::Refused { number: 4, line: 0 });
     }
     let count = state.clauses;
+    let inputs = state.inputs;
     let first = first_empty(state);
-    if first < count {
-        return Verdict::Refuted { count, first };
+    if first >= count {
+        return plain(Verdict::Open { count });
     }
-    Verdict::Open { count }
+    let verdict = Verdict::Refuted { count, first };
+    let rests = rests(a, b, inputs, first);
+    Answer { verdict, rests }
 }
 
 // The lines one after the other, up to the first that fails. The state is written in place: a line moves none of it.
-fn read_on(text: &[u8], figures: Figures) -> Verdict
+fn read_on(text: &[u8], figures: Figures) -> Answer
     requires { ⌜ (tooLarge figures (now text) ≡ false) × UpToOffice figures ⌝ }
-    ensures { λ r. ⌜ r ≡ readOn freshly 1 (readings figures (now (text .entry))) ⌝ }
+    ensures { λ r. ⌜ Answers figures (now (text .entry)) r ⌝ }
 {
     let mut state = fresh();
+    let mut first_parents = [0u16; LINES];
+    let mut second_parents = [0u16; LINES];
     let mut at = 0;
     let mut line = 1;
     while at < text.len() {
@@ -197,8 +213,12 @@ fn read_on(text: &[u8], figures: Figures) -> Verdict
         let b = held(state.starts[m], state.literals[m], state.widths[m]);
         let number = failing(figures.depth, text, clauses, a, b, bytes, seen);
         if number != 0 {
-            return Verdict::Refused { number, line };
+            return plain(Verdict::Refused { number, line });
         }
+        let rule = l.rule;
+        let used = used_parents(rule, l.a, l.b);
+        first_parents[clauses] = used.a;
+        second_parents[clauses] = used.b;
         let added = adds(at, inputs, l);
         if added.symbol {
             state.counts[symbols] = added.k;
@@ -213,14 +233,15 @@ fn read_on(text: &[u8], figures: Figures) -> Verdict
         at = end + 1;
         line += 1;
     }
-    finish(state)
+    finish(state, &first_parents, &second_parents)
 }
 
-// The verdict of a text, and what it means.
+// The answer to a text, and what it means.
 pub fn check(text: &[u8]) -> Answer
     ensures { λ r. ⌜ r .verdict ≡ verdict office (now (text .entry)) ⌝ }
-    ensures { λ r. ⌜ Means office (now (text .entry)) (r .verdict) ⌝ }
-    ensures { λ r. ⌜ Guarantee office (now (text .entry)) (r .verdict) ⌝ }
+    ensures { λ r. ⌜ named (r .rests) ≡ rests office (now (text .entry)) ⌝ }
+    ensures { λ r. ⌜ Means office (now (text .entry)) (r .verdict) (named (r .rests)) ⌝ }
+    ensures { λ r. ⌜ Guarantee office (now (text .entry)) (r .verdict) (named (r .rests)) ⌝ }
     ensures { λ _. ⌜ now (text .exit) ≡ now (text .entry) ⌝ }
 {
     let figures = Figures {
@@ -229,9 +250,7 @@ pub fn check(text: &[u8]) -> Answer
         depth: DEPTH,
     };
     if too_large(text, figures) {
-        let verdict = Verdict::Refused { number: 1, line: 0 };
-        return Answer { verdict };
+        return plain(Verdict::Refused { number: 1, line: 0 });
     }
-    let verdict = read_on(text, figures);
-    Answer { verdict }
+    read_on(text, figures)
 }

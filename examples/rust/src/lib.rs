@@ -7,6 +7,8 @@ pub mod raw {
     pub const REFUSED: u32 = 0;
     pub const OPEN: u32 = 1;
     pub const REFUTED: u32 = 2;
+    /// No text has so many clauses.
+    pub const CLAUSES: usize = 1_024;
 
     extern "C" {
         pub fn fcheck_check(
@@ -14,12 +16,24 @@ pub mod raw {
             length: usize,
             first: *mut usize,
             second: *mut usize,
+            rests: *mut u8,
+            room: usize,
         ) -> u32;
     }
 }
 
-/// The verdict on a text. As a string it is the line that the program `fcheck`
-/// prints, without its line end.
+/// The answer to a text. As a string it is what the program `fcheck` prints, one
+/// line or two, without the last line end.
+#[derive(Clone, Debug, PartialEq, Eq)]
+pub struct Answer {
+    pub verdict: Verdict,
+    /// The numbers, rising, of the input clauses from which the first empty clause
+    /// descends, or itself if it is an input; none where the text isn't refuted.
+    pub rests: Vec<usize>,
+}
+
+/// The verdict on a text. As a string it is the answer's first line, without its
+/// line end.
 #[derive(Clone, Copy, Debug, PartialEq, Eq)]
 pub enum Verdict {
     /// Accepted: the number of clauses, and the number of the first empty one.
@@ -31,11 +45,36 @@ pub enum Verdict {
 }
 
 /// Checks a text.
-pub fn check(text: &[u8]) -> Verdict {
+pub fn check(text: &[u8]) -> Answer {
     let (mut first, mut second) = (0, 0);
-    // SAFETY: the text is lent for the call, and the two numbers are apart from
-    // it and from each other.
-    let word = unsafe { raw::fcheck_check(text.as_ptr(), text.len(), &mut first, &mut second) };
+    let mut rests = [0; raw::CLAUSES];
+    // SAFETY: the text is lent for the call, and the two numbers and the bytes are
+    // apart from it and from each other.
+    let word = unsafe {
+        raw::fcheck_check(
+            text.as_ptr(),
+            text.len(),
+            &mut first,
+            &mut second,
+            rests.as_mut_ptr(),
+            rests.len(),
+        )
+    };
+    let verdict = verdict(word, first, second);
+    // Only those of a refuted text are looked at.
+    let clauses = match verdict {
+        Verdict::Refuted { count, .. } => count,
+        _ => 0,
+    };
+    let marked = (0..clauses).filter(|&number| rests[number] == 1);
+    Answer {
+        verdict,
+        rests: marked.collect(),
+    }
+}
+
+/// The verdict that has this word and these numbers.
+fn verdict(word: u32, first: usize, second: usize) -> Verdict {
     match word {
         raw::REFUTED => Verdict::Refuted {
             count: first,
@@ -47,6 +86,19 @@ pub fn check(text: &[u8]) -> Verdict {
             line: second,
         },
         other => unreachable!("fcheck_check answered {other}"),
+    }
+}
+
+impl fmt::Display for Answer {
+    fn fmt(&self, f: &mut fmt::Formatter<'_>) -> fmt::Result {
+        write!(f, "{}", self.verdict)?;
+        if matches!(self.verdict, Verdict::Refuted { .. }) {
+            write!(f, "\nrests")?;
+            for number in &self.rests {
+                write!(f, " {number}")?;
+            }
+        }
+        Ok(())
     }
 }
 

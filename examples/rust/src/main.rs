@@ -1,6 +1,6 @@
-//! Prints the verdict on the text on standard input, through the static library.
+//! Prints the answer to the text on standard input, through the static library.
 //! The exit status is 0 where the text is accepted, 1 where it is refused, and 2
-//! where standard input can't be read or the verdict can't be written.
+//! where standard input can't be read or the answer can't be written.
 
 use std::io::{self, Read, Write};
 use std::process::ExitCode;
@@ -21,11 +21,11 @@ fn main() -> ExitCode {
     }
 }
 
-/// Reads the text and prints its verdict.
+/// Reads the text, prints its answer and gives its verdict.
 fn check() -> io::Result<Verdict> {
     let mut text = Vec::new();
     io::stdin().lock().take(ENOUGH).read_to_end(&mut text)?;
-    let verdict = fcheck::check(&text);
-    writeln!(io::stdout(), "{verdict}")?;
-    Ok(verdict)
+    let answer = fcheck::check(&text);
+    writeln!(io::stdout(), "{answer}")?;
+    Ok(answer.verdict)
 }

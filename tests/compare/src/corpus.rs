@@ -8,13 +8,13 @@ use std::path::Path;
 use second::generate::limits::{limit_text, KINDS};
 use second::generate::model::RULES;
 use second::generate::random::Random;
-use second::generate::{sample, Sample};
-use second::{check, MAX_BYTES, MAX_LINES};
+use second::generate::{mixed_sample, web_sample, Sample};
+use second::{check, Answer, Verdict, MAX_BYTES, MAX_LINES};
 
 use crate::coverage::{can_fail, classify, rules_of, Class, Coverage};
 use crate::examples::read_examples;
-use crate::made::made;
-use crate::{second_line, shown};
+use crate::made::{made, refutations};
+use crate::second_answer;
 
 /// No text of the corpus is longer: one byte above the limit shows that a text
 /// is too long.
@@ -27,6 +27,9 @@ const SMALL: usize = 600;
 /// The long ones lie between, and there are so many of them.
 const LONG: std::ops::RangeInclusive<usize> = 8_000..=40_000;
 const LONG_TEXTS: u64 = 8;
+/// Webs are at most so long, and there are so many of them.
+const WEB: usize = 1_000;
+const WEBS: usize = 30;
 /// How many accepted texts are wanted for each rule, of each verdict.
 const ACCEPTED_EACH: u64 = 30;
 /// How many texts are wanted that a number refuses at a step by a rule.
@@ -95,7 +98,7 @@ pub struct Corpus {
     pub coverage: Coverage,
     /// How often each kind of verdict came for a limit, at it and one past it.
     limits: BTreeMap<(usize, bool), BTreeMap<String, u64>>,
-    /// The texts that don't get the verdict that they are made for.
+    /// The texts that don't get the answer that they are made for.
     wrong: Vec<String>,
 }
 
@@ -104,7 +107,8 @@ impl Corpus {
     pub fn make(examples: &Path) -> io::Result<Self> {
         let mut corpus = Corpus::default();
         for example in read_examples(examples)? {
-            corpus.add_made(example.text, &shown(&example.expected));
+            let expected = String::from_utf8_lossy(&example.expected);
+            corpus.add_made(example.text, expected.strip_suffix('\n').unwrap_or(""));
         }
         corpus.add_bytes();
         corpus.add_limits();
@@ -115,6 +119,10 @@ impl Corpus {
             corpus.add_made(text.text, &text.expected);
         }
         corpus.add_generated();
+        for text in refutations() {
+            corpus.add_made(text.text, &text.expected);
+        }
+        corpus.add_webs();
         Ok(corpus)
     }
 
@@ -133,12 +141,12 @@ impl Corpus {
         new
     }
 
-    /// Adds a text that is made for a verdict, and tells whether it did.
+    /// Adds a text that is made for an answer, and tells whether it did.
     fn add_made(&mut self, text: Vec<u8>, expected: &str) -> bool {
-        let verdict = check(&text).to_string();
-        if verdict != expected {
+        let answer = check(&text).to_string();
+        if answer != expected {
             let text = String::from_utf8_lossy(&text);
-            let wrong = format!("made for {expected}, and gets {verdict}:\n{text}");
+            let wrong = format!("made for {expected}, and gets {answer}:\n{text}");
             self.wrong.push(wrong);
         }
         self.add(text)
@@ -274,7 +282,7 @@ impl Corpus {
         let (size, name) = (text.len(), classify(&text).name());
         let known = (self.limits.get(&limit)).is_some_and(|names| names.contains_key(&name));
         let most = if known { LIMIT_BYTES } else { LIMIT_BYTES_NEW };
-        let expected = expected.map_or("unknown".into(), |verdict| verdict.to_string());
+        let expected = expected.map_or("unknown".into(), |answer| answer.to_string());
         if before + size > most || !self.add_made(text, &expected) {
             return 0;
         }
@@ -309,7 +317,7 @@ impl Corpus {
         let mut taken: BTreeMap<(Class, &str), u64> = BTreeMap::new();
         let mut long = 0;
         for seed in SEEDS {
-            let Sample { text, expected } = sample(seed);
+            let Sample { text, expected } = mixed_sample(seed);
             let class = classify(&text);
             let accepted = matches!(class, Class::Open | Class::Refuted);
             let expected = expected.unwrap_or(check(&text)).to_string();
@@ -341,10 +349,21 @@ impl Corpus {
         }
     }
 
-    /// What is missing: each verdict, each number, each limit with its kinds of
-    /// verdicts, each rule accepted, and each rule refused by each number from 7
-    /// to 11 that it can fail. A text that doesn't get the verdict that it is
-    /// made for is told as well.
+    /// Webs: refutations by steps that are used again.
+    fn add_webs(&mut self) {
+        let small = |sample: &Sample| sample.text.len() <= WEB;
+        let webs = SEEDS.map(web_sample).filter(small);
+        for Sample { text, expected } in webs.take(WEBS) {
+            let expected = expected.unwrap_or(check(&text)).to_string();
+            self.add_made(text, &expected);
+        }
+    }
+
+    /// What is missing: each verdict, refutations that don't need all their
+    /// inputs, each number, each limit with its kinds of verdicts, each rule
+    /// accepted, and each rule refused by each number from 7 to 11 that it can
+    /// fail. A text that doesn't get the answer that it is made for is told as
+    /// well.
     pub fn missing(&self) -> Vec<String> {
         let mut missing = self.wrong.clone();
         let mut want = |times: u64, least: u64, what: String| {
@@ -356,6 +375,9 @@ impl Corpus {
         want(self.texts.len() as u64, 2_000, "texts".into());
         want(coverage.class(&Class::Open), 100, "open".into());
         want(coverage.class(&Class::Refuted), 100, "refuted".into());
+        let spared = self.texts.iter().filter(|text| spares_an_input(text));
+        let spared = spared.count() as u64;
+        want(spared, 100, "refuted beside unused inputs".into());
         for number in 1..=11 {
             let least = if number == 1 { 4 } else { 40 };
             want(coverage.refused(number), least, format!("refused {number}"));
@@ -370,6 +392,13 @@ impl Corpus {
                 );
             }
         }
+        missing.extend(self.missing_limits());
+        missing
+    }
+
+    /// The limits whose texts don't have the kinds of verdicts that are wanted.
+    fn missing_limits(&self) -> Vec<String> {
+        let mut missing = Vec::new();
         for (kind, (name, at, past)) in LIMITS.into_iter().enumerate() {
             for (wanted, side) in [(at, false), (past, true)] {
                 let found = self.limit_names((kind, side));
@@ -395,11 +424,19 @@ impl Corpus {
         file
     }
 
-    /// The second checker's line for each text.
-    pub fn lines(&self) -> Vec<u8> {
-        let lines = self.texts.iter().flat_map(|text| second_line(text));
-        lines.collect()
+    /// The second checker's answer to each text.
+    pub fn answers(&self) -> Vec<u8> {
+        let answers = self.texts.iter().flat_map(|text| second_answer(text));
+        answers.collect()
     }
+}
+
+/// Whether a text is refuted and one of its inputs is not needed for that.
+fn spares_an_input(text: &[u8]) -> bool {
+    let lines = text.split(|&byte| byte == b'\n');
+    let inputs = lines.filter(|line| line.starts_with(b"(in ")).count();
+    let Answer { verdict, rests } = check(text);
+    matches!(verdict, Verdict::Refuted { .. }) && rests.len() < inputs
 }
 
 /// The texts of such a file.

@@ -33,7 +33,7 @@ impl Class {
 
 /// The class of a text.
 pub fn classify(text: &[u8]) -> Class {
-    class_of(text, check(text))
+    class_of(text, check(text).verdict)
 }
 
 /// The class of a text whose verdict is known.

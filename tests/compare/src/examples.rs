@@ -1,11 +1,11 @@
-//! Texts in a folder: `NAME.flogic`, and the expected line in `NAME.answer`.
+//! Texts in a folder: `NAME.flogic`, and the expected answer in `NAME.answer`.
 
 use std::ffi::OsStr;
 use std::fs;
 use std::io;
 use std::path::{Path, PathBuf};
 
-/// A text with its expected line.
+/// A text with its expected answer, as it is printed.
 #[derive(Clone, Debug)]
 pub struct Example {
     pub name: String,
@@ -41,7 +41,7 @@ fn read_example(path: &Path) -> io::Result<Example> {
     })
 }
 
-/// Writes a text and its expected line.
+/// Writes a text and its expected answer.
 pub fn write_example(folder: &Path, example: &Example) -> io::Result<PathBuf> {
     fs::create_dir_all(folder)?;
     let path = folder.join(&example.name).with_extension("flogic");

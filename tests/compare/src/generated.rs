@@ -10,7 +10,7 @@ use second::check;
 use second::generate::Sample;
 
 use crate::coverage::{class_of, Class, Coverage};
-use crate::line_of;
+use crate::printed;
 
 /// How often the workers are looked at.
 const LOOK: Duration = Duration::from_millis(100);
@@ -123,14 +123,14 @@ fn one(
 ) -> Result {
     *work.lock().unwrap() = Some((seed, Instant::now()));
     let Sample { text, expected } = generate(seed);
-    let verdict = check(&text);
+    let answer = check(&text);
     *work.lock().unwrap() = None;
-    let second = line_of(verdict);
-    let expected = expected.map(line_of);
+    let second = printed(&answer);
+    let expected = expected.as_ref().map(printed);
     let program = program(&text);
-    let same = program == second && expected.as_ref().is_none_or(|line| *line == second);
+    let same = program == second && expected.as_ref().is_none_or(|answer| *answer == second);
     Result {
-        class: class_of(&text, verdict),
+        class: class_of(&text, answer.verdict),
         text,
         difference: (!same).then_some(Difference {
             seed,

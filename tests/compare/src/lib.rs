@@ -1,11 +1,11 @@
-//! Holds a checker, run as a program, against expected lines.
+//! Holds a checker, run as a program, against expected answers.
 //!
 //! * [`program`]: runs the program on one text;
-//! * [`examples`]: texts in a folder, each with its expected line beside it;
-//! * [`generated`]: generated texts, whose lines come from the second checker;
+//! * [`examples`]: texts in a folder, each with its expected answer beside it;
+//! * [`generated`]: generated texts, whose answers come from the second checker;
 //! * [`coverage`]: what a set of texts covers;
 //! * [`corpus`]: the stored corpus;
-//! * [`made`]: texts of it that are made for a verdict.
+//! * [`made`]: texts of it that are made for an answer.
 
 pub mod corpus;
 pub mod coverage;
@@ -14,24 +14,25 @@ pub mod generated;
 pub mod made;
 pub mod program;
 
-/// The line that the second checker gives, with its line end.
-pub fn second_line(text: &[u8]) -> Vec<u8> {
-    line_of(second::check(text))
+/// What the second checker answers, as it is printed.
+pub fn second_answer(text: &[u8]) -> Vec<u8> {
+    printed(&second::check(text))
 }
 
-/// A verdict's line, with its line end.
-pub fn line_of(verdict: second::Verdict) -> Vec<u8> {
-    format!("{verdict}\n").into_bytes()
+/// An answer as it is printed: its lines, each with its line end.
+pub fn printed(answer: &second::Answer) -> Vec<u8> {
+    format!("{answer}\n").into_bytes()
 }
 
-/// A line as it is shown to people: without its line end if it has just one,
-/// otherwise with every byte visible.
-pub fn shown(line: &[u8]) -> String {
-    let bare = line.strip_suffix(b"\n").unwrap_or(b"");
+/// An answer as it is shown to people: its lines with a comma between them, or
+/// with every byte visible if they aren't plain lines, each with its line end.
+pub fn shown(answer: &[u8]) -> String {
+    let bare = answer.strip_suffix(b"\n").unwrap_or(b"");
+    let mut lines = bare.split(|&byte| byte == b'\n');
     let plain = |byte: &u8| byte.is_ascii_graphic() || *byte == b' ';
-    if !bare.is_empty() && bare.iter().all(plain) {
-        String::from_utf8_lossy(bare).into_owned()
+    if lines.all(|line| !line.is_empty() && line.iter().all(plain)) {
+        String::from_utf8_lossy(bare).replace('\n', ", ")
     } else {
-        format!("{:?}", String::from_utf8_lossy(line))
+        format!("{:?}", String::from_utf8_lossy(answer))
     }
 }

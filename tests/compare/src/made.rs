@@ -1,5 +1,5 @@
-//! Texts that are made for a verdict: lines that fail two checks, and steps
-//! that are right or wrong in one place.
+//! Texts that are made for an answer: lines that fail two checks, steps that
+//! are right or wrong in one place, and refutations that rest on some inputs.
 //!
 //! They are written with capital letters for common terms, since no form has
 //! any: A, B, C are the constants 0, 1, 2, and X, Y the variables 0, 1. Symbol
@@ -7,18 +7,24 @@
 
 mod lines;
 mod literals;
+mod rests;
 mod steps;
 mod terms;
 mod words;
 
-/// A text with the line that it is made to get.
+/// A text with the answer that it is made to get, without its last line end.
 #[derive(Clone, Debug)]
 pub struct Made {
     pub text: Vec<u8>,
     pub expected: String,
 }
 
-/// All of them, in a fixed order.
+/// Refutations, made for the inputs that they rest on.
+pub fn refutations() -> Vec<Made> {
+    rests::texts()
+}
+
+/// All the others, in a fixed order.
 pub fn made() -> Vec<Made> {
     [
         words::texts(),

@@ -8,13 +8,13 @@ use std::sync::mpsc;
 use std::thread;
 use std::time::{Duration, Instant};
 
-/// So much of an output is read; a line is shorter.
+/// So much of an output is read; an answer is shorter.
 const ENOUGH: u64 = 4_096;
 /// How long a program that has closed its output is left before it is looked
 /// at again.
 const PAUSE: Duration = Duration::from_micros(50);
 
-/// The program, which reads a text on standard input and prints one line.
+/// The program, which reads a text on standard input and prints its answer.
 #[derive(Clone, Debug)]
 pub struct Program {
     path: PathBuf,
@@ -27,7 +27,7 @@ pub struct Program {
 
 /// What a run of the program gave.
 struct Output {
-    line: Vec<u8>,
+    answer: Vec<u8>,
     message: Vec<u8>,
     status: ExitStatus,
 }
@@ -50,29 +50,29 @@ impl Program {
             Some(input) => input.write_all(&text),
             None => Ok(()),
         })?;
-        let refused = self.tells && output.line.starts_with(b"refused ");
+        let refused = self.tells && output.answer.starts_with(b"refused ");
         if output.status.code() != Some(i32::from(refused)) || !output.message.is_empty() {
             return Err(output.failure());
         }
-        Ok(output.line)
+        Ok(output.answer)
     }
 
     /// The answer, with a failure told in its place.
     pub fn answer_or_failure(&self, text: &[u8]) -> Vec<u8> {
         match self.answer(text) {
-            Ok(line) => line,
+            Ok(answer) => answer,
             Err(error) => format!("failed: {error}").into_bytes(),
         }
     }
 
     /// Holds the program to what it does where standard input can't be read: a
-    /// message on standard error, no line, and its exit status where that
+    /// message on standard error, no answer, and its exit status where that
     /// tells. A folder can be opened and not read.
     pub fn tells_failed_read(&self) -> io::Result<()> {
         let folder = File::open("/")?;
         let child = self.spawn(folder.into())?;
         let output = self.output(child, || Ok(()))?;
-        let told = output.line.is_empty() && !output.message.is_empty();
+        let told = output.answer.is_empty() && !output.message.is_empty();
         if !told || (self.tells && output.status.code() != Some(2)) {
             return Err(output.failure());
         }
@@ -96,8 +96,8 @@ impl Program {
     ) -> io::Result<Output> {
         let end = Instant::now() + self.limit;
         let (sender, receiver) = mpsc::channel();
-        let (line, message) = (child.stdout.take(), child.stderr.take());
-        thread::spawn(move || sender.send(feed_and_read(feed, line, message)));
+        let (answer, message) = (child.stdout.take(), child.stderr.take());
+        thread::spawn(move || sender.send(feed_and_read(feed, answer, message)));
         let read = receiver.recv_timeout(self.limit);
         let status = match &read {
             Ok(_) => wait(&mut child, end)?,
@@ -111,9 +111,9 @@ impl Program {
                 "no answer within {seconds} seconds"
             )));
         };
-        let (line, message) = read?;
+        let (answer, message) = read?;
         Ok(Output {
-            line,
+            answer,
             message,
             status,
         })
@@ -131,14 +131,14 @@ impl Output {
 /// Feeds the program and reads what it prints on both outputs.
 fn feed_and_read(
     feed: impl FnOnce() -> io::Result<()>,
-    line: Option<impl Read>,
+    answer: Option<impl Read>,
     message: Option<impl Read>,
 ) -> io::Result<(Vec<u8>, Vec<u8>)> {
     match feed() {
         Err(error) if error.kind() != io::ErrorKind::BrokenPipe => return Err(error),
         _ => {}
     }
-    Ok((read_some(line)?, read_some(message)?))
+    Ok((read_some(answer)?, read_some(message)?))
 }
 
 fn read_some(output: Option<impl Read>) -> io::Result<Vec<u8>> {

@@ -9,7 +9,7 @@ use std::time::Duration;
 
 use compare::generated::{self, Run};
 use compare::program::Program;
-use compare::second_line;
+use compare::second_answer;
 use second::generate::{sample, Sample};
 use second::Verdict;
 
@@ -120,12 +120,12 @@ const FEW: Run = Run {
 #[test]
 fn what_the_generator_expects_is_compared() {
     let wrong = |seed| Sample {
-        expected: Some(Verdict::Open { count: 9_999 }),
+        expected: Some(Verdict::Open { count: 9_999 }.into()),
         ..sample(seed)
     };
-    let outcome = generated::compare(wrong, second_line, FEW);
+    let outcome = generated::compare(wrong, second_answer, FEW);
     assert_eq!((outcome.texts, outcome.differences.len()), (40, 40));
-    let outcome = generated::compare(sample, second_line, FEW);
+    let outcome = generated::compare(sample, second_answer, FEW);
     assert_eq!((outcome.texts, outcome.differences.len()), (40, 0));
     assert_eq!(outcome.late, None);
 }
@@ -139,13 +139,13 @@ fn a_generator_that_takes_too_long_or_panics_ends_the_run() {
         _ => sample(seed),
     };
     let limit = Duration::from_secs(2);
-    let outcome = generated::compare(slow, second_line, Run { limit, ..FEW });
+    let outcome = generated::compare(slow, second_answer, Run { limit, ..FEW });
     assert_eq!(outcome.late, Some(7));
     let panics = |seed| match seed {
         7 => panic!("on purpose"),
         _ => sample(seed),
     };
-    let outcome = generated::compare(panics, second_line, FEW);
+    let outcome = generated::compare(panics, second_answer, FEW);
     assert_eq!((outcome.texts, outcome.late), (39, Some(7)));
 }
 
@@ -196,6 +196,24 @@ fn a_missing_line_end_and_a_failing_program_are_differences() {
         let program = script(&folder, commands);
         let output = compare(&[&program, "5", "0", keep.to_str().unwrap()]);
         assert_eq!(last_line(&output), "0 passed, 5 failed", "{commands}");
+        assert_eq!(output.status.code(), Some(1), "{commands}");
+    }
+}
+
+#[test]
+fn a_wrong_second_line_is_a_difference() {
+    let folder = folder("second-line");
+    let examples = concat!(env!("CARGO_MANIFEST_DIR"), "/../../examples");
+    for commands in [
+        "SECOND | head -n 1",
+        "SECOND | sed 's/^rests 0 2$/rests 0 1 2/'",
+        "SECOND | sed 's/^rests 0 2$/rests 2 0/'",
+        "SECOND | sed 's/^rests 0 2$/rests 0 2 /'",
+        "SECOND | sed '/^rests 0 2$/p'",
+        "SECOND | sed 's/^\\(open.*\\)$/\\1\\nrests/'",
+    ] {
+        let program = script(&folder, commands);
+        let output = compare(&[&program, "--examples", examples]);
         assert_eq!(output.status.code(), Some(1), "{commands}");
     }
 }

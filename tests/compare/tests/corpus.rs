@@ -4,7 +4,7 @@ use std::fs;
 use std::path::Path;
 
 use compare::corpus::{read_file, Corpus, LONGEST};
-use compare::made::made;
+use compare::made::{made, refutations};
 
 #[test]
 fn the_stored_corpus_is_complete_and_the_one_that_is_made() {
@@ -17,12 +17,12 @@ fn the_stored_corpus_is_complete_and_the_one_that_is_made() {
     assert_eq!(read_file(&file).as_deref(), Some(corpus.texts()));
     let stored = root.join("crates/corpus");
     assert!(fs::read(stored.join("data/corpus.bin")).unwrap() == file);
-    assert!(fs::read(stored.join("stdout")).unwrap() == corpus.lines());
+    assert!(fs::read(stored.join("stdout")).unwrap() == corpus.answers());
 }
 
 #[test]
-fn texts_get_the_verdict_that_they_are_made_for() {
-    for made in made() {
+fn texts_get_the_answer_that_they_are_made_for() {
+    for made in [made(), refutations()].concat() {
         let text = String::from_utf8_lossy(&made.text);
         assert_eq!(
             second::check(&made.text).to_string(),

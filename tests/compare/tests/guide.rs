@@ -4,18 +4,24 @@
 use std::fs;
 use std::path::{Path, PathBuf};
 
-use compare::{second_line, shown};
+use compare::{second_answer, shown};
 use second::generate::model::{used_numbers, RULES};
 
 fn root() -> PathBuf {
     Path::new(env!("CARGO_MANIFEST_DIR")).join("../..")
 }
 
-/// The example's text and expected line.
+/// The example's text and its expected answer, the lines with a comma between.
 fn example(name: &str) -> (String, String) {
     let path = root().join("examples").join(name);
     let read = |ending: &str| fs::read_to_string(path.with_extension(ending)).unwrap();
-    (read("flogic"), read("answer").trim_end().to_string())
+    (read("flogic"), shown(read("answer").as_bytes()))
+}
+
+/// An answer as the guide writes it, without the marks around each line.
+fn quoted(answer: &str) -> String {
+    assert!(answer.starts_with('`') && answer.ends_with('`'), "{answer}");
+    answer[1..answer.len() - 1].replace("`, `", ", ")
 }
 
 /// What stands between two marks, and the rest.
@@ -28,19 +34,19 @@ fn between<'a>(text: &'a str, start: &str, end: &str) -> Option<(&'a str, &'a st
 fn texts_are_quoted_as_they_are() {
     let guide = fs::read_to_string(root().join("docs/GUIDE.md")).unwrap();
     let mut rest = guide.as_str();
-    let mut quoted = 0;
+    let mut texts = 0;
     while let Some((name, after)) = between(rest, "`examples/", ".flogic`:\n\n```text\n") {
         let (text, after) = after.split_once("```").unwrap();
-        let (answer, after) = between(after, "Answer: `", "`").unwrap();
+        let (answer, after) = between(after, "Answer: ", "\n").unwrap();
         // The name begins after the last mark before the block.
         let name = name.rsplit("`examples/").next().unwrap();
-        assert_eq!((text.into(), answer.into()), example(name), "{name}");
-        quoted += 1;
+        assert_eq!((text.into(), quoted(answer)), example(name), "{name}");
+        texts += 1;
         rest = after;
     }
-    // C1, the rules, those for provers, the refusals but the first, the paper's
-    // proof, the survey.
-    assert_eq!(quoted, 1 + 12 + 2 + 10 + 1 + 2);
+    // C1, the inputs that are used, the rules, those for provers, the refusals
+    // but the first, the paper's proof, the survey.
+    assert_eq!(texts, 1 + 1 + 12 + 2 + 10 + 1 + 2);
 }
 
 #[test]
@@ -55,7 +61,7 @@ fn mended_texts_get_the_answer_that_is_named() {
         let Some(mend) = paragraph.strip_prefix("To mend it, ") else {
             continue;
         };
-        let (changes, answer) = mend.split_once(": the answer is `").unwrap();
+        let (changes, answer) = mend.split_once(": the answer is ").unwrap();
         let (text, _) = example(name);
         let mut lines: Vec<&str> = text.lines().collect();
         for change in changes.split(" and ") {
@@ -64,8 +70,8 @@ fn mended_texts_get_the_answer_that_is_named() {
             lines[number - 1] = line.strip_suffix('`').unwrap();
         }
         let text = lines.join("\n") + "\n";
-        let answer = answer.strip_suffix("`.").unwrap();
-        assert_eq!(shown(&second_line(text.as_bytes())), answer, "{name}");
+        let answer = quoted(answer.strip_suffix('.').unwrap());
+        assert_eq!(shown(&second_answer(text.as_bytes())), answer, "{name}");
         mended += 1;
     }
     assert_eq!(mended, 10);
@@ -139,8 +145,12 @@ fn the_tables_of_the_text_form_are_the_second_checkers() {
     ] {
         assert_eq!(row(what)[1].replace(',', ""), most.to_string(), "{what}");
     }
+}
+
+#[test]
+fn the_corners_of_the_text_form_have_the_examples_answers() {
     for corner in 1..=10 {
-        let line = &row(&format!("**C{corner}**"))[2];
-        assert_eq!(*line, example(&format!("c{corner:02}")).1, "C{corner}");
+        let answer = &row(&format!("**C{corner}**"))[2];
+        assert_eq!(*answer, example(&format!("c{corner:02}")).1, "C{corner}");
     }
 }

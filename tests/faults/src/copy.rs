@@ -13,7 +13,14 @@ use crate::fault::Fault;
 use crate::path;
 
 /// The checker's files; its generator is left out.
-const FILES: [&str; 5] = ["lib.rs", "parser.rs", "reading.rs", "rules.rs", "syntax.rs"];
+const FILES: [&str; 6] = [
+    "descent.rs",
+    "lib.rs",
+    "parser.rs",
+    "reading.rs",
+    "rules.rs",
+    "syntax.rs",
+];
 /// A copy that takes longer is ended; the corpus takes a tenth of a second.
 const LIMIT: Duration = Duration::from_secs(20);
 
@@ -44,8 +51,8 @@ impl Batch {
         Ok(Batch { folder })
     }
 
-    /// The lines that each copy prints for the corpus. One that ends early has
-    /// fewer than there are texts.
+    /// The answers of each copy to the corpus. One that ends early has fewer
+    /// than there are texts.
     pub fn answers(&self, count: usize) -> Result<Vec<Vec<String>>, String> {
         let program = build(&self.folder)?;
         let answers = (0..count).map(|index| run(&program, index)).collect();

@@ -1,6 +1,7 @@
 
-/// Prints the verdict of one of the copies on each text of a corpus; a text on
-/// which the copy panics has the line "panic".
+/// Prints the answer of one of the copies to each text of a corpus, on one line:
+/// the answer's lines with a comma between them, or "panic" where the copy
+/// panics.
 fn main() {
     std::panic::set_hook(Box::new(|_| {}));
     let arguments: Vec<String> = std::env::args().collect();
@@ -10,7 +11,7 @@ fn main() {
     while let Some((length, behind)) = rest.split_first_chunk::<4>() {
         let (text, behind) = behind.split_at(u32::from_le_bytes(*length) as usize);
         match std::panic::catch_unwind(|| copy(text)) {
-            Ok(line) => println!("{line}"),
+            Ok(answer) => println!("{}", answer.replace('\n', ", ")),
             Err(_) => println!("panic"),
         }
         rest = behind;

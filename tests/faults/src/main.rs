@@ -51,33 +51,54 @@ fn run() -> Result<usize, String> {
     let faults = fault::read(include_str!("../faults.txt"))?;
     let right = path("crates/corpus/stdout");
     let right = fs::read_to_string(&right).map_err(|e| format!("{}: {e}", right.display()))?;
-    let right: Vec<&str> = right.lines().collect();
-    let notices = try_all(&faults, &right)?;
+    let notices = try_all(&faults, &answers(&right))?;
 
-    println!("  texts  first  right           wrong           fault");
+    let (right, wrong) = ("right", "wrong");
+    println!("  texts  first  {right:<25} {wrong:<25} fault");
     let mut unnoticed = 0;
     for (fault, notice) in faults.iter().zip(notices) {
         let Fault { file, what, .. } = fault;
-        match notice {
-            Some(Notice {
-                texts,
-                first,
-                right,
-                wrong,
-            }) => println!("{texts:>7} {first:>6}  {right:<15} {wrong:<15} {file}: {what}"),
+        let row = match notice {
+            Some(notice) => notice.row(),
             None => {
                 unnoticed += 1;
-                println!("   none      -  -               -               {file}: {what}");
+                format!("   none      -  {:<25} {:<25}", "-", "-")
             }
-        }
+        };
+        println!("{row} {file}: {what}");
     }
     println!("{} passed, {unnoticed} failed", faults.len() - unnoticed);
     Ok(unnoticed)
 }
 
+impl Notice {
+    /// Its part of a row of the table; long answers are cut.
+    fn row(&self) -> String {
+        let Notice { texts, first, .. } = self;
+        let [right, wrong] = [&self.right, &self.wrong].map(|answer| match answer.len() {
+            0..=25 => answer.clone(),
+            _ => format!("{}...", &answer[..22]),
+        });
+        format!("{texts:>7} {first:>6}  {right:<25} {wrong:<25}")
+    }
+}
+
+/// The answers that the corpus stores, each on one line: a second line, behind a
+/// comma, belongs to the one before it.
+fn answers(stored: &str) -> Vec<String> {
+    let mut answers: Vec<String> = Vec::new();
+    for line in stored.lines() {
+        match answers.last_mut().filter(|_| line.starts_with("rests")) {
+            Some(answer) => *answer += &format!(", {line}"),
+            None => answers.push(line.into()),
+        }
+    }
+    answers
+}
+
 /// What each fault changes, in their order. A copy without one must answer as
 /// the corpus says.
-fn try_all(faults: &[Fault], right: &[&str]) -> Result<Vec<Option<Notice>>, String> {
+fn try_all(faults: &[Fault], right: &[String]) -> Result<Vec<Option<Notice>>, String> {
     let mut copies = vec![None];
     copies.extend(faults.iter().map(Some));
     // All are written first: a table that doesn't fit the source fails here.
@@ -113,7 +134,7 @@ fn try_all(faults: &[Fault], right: &[&str]) -> Result<Vec<Option<Notice>>, Stri
 
 /// Where a copy's answers differ; one that ends early has no answer to the
 /// texts that are left.
-fn notice(right: &[&str], answers: &[String]) -> Option<Notice> {
+fn notice(right: &[String], answers: &[String]) -> Option<Notice> {
     let answer = |index: usize| answers.get(index).map_or("none", String::as_str);
     let differs: Vec<usize> = (0..right.len())
         .filter(|&index| right[index] != answer(index))
@@ -122,7 +143,24 @@ fn notice(right: &[&str], answers: &[String]) -> Option<Notice> {
     Some(Notice {
         texts: differs.len(),
         first: first + 1,
-        right: right[first].into(),
+        right: right[first].clone(),
         wrong: answer(first).into(),
     })
+}
+
+#[cfg(test)]
+mod tests {
+    use super::answers;
+
+    #[test]
+    fn a_second_line_belongs_to_the_answer_before_it() {
+        let stored = "open 0\nrefuted 3 2\nrests 0 1\nrefuted 1 0\nrests\nrefused 2 1\n";
+        let right = [
+            "open 0",
+            "refuted 3 2, rests 0 1",
+            "refuted 1 0, rests",
+            "refused 2 1",
+        ];
+        assert_eq!(answers(stored), right);
+    }
 }

@@ -1,7 +1,8 @@
 //! A seeded generator of test texts.
 //!
-//! Each seed gives one text, always the same: a valid derivation, a text at
-//! or just past a limit, or a valid text that was damaged.
+//! Each seed gives one text, always the same: a valid derivation, a web (a
+//! refutation by many steps that are used again), a text at or just past a
+//! limit, or a valid text that was damaged.
 
 pub mod damage;
 pub mod derive;
@@ -16,13 +17,16 @@ use limits::limit_text;
 use model::{write_lines, RULES};
 use random::Random;
 
-use crate::{Verdict, MAX_BYTES, MAX_LINES};
+use crate::{Answer, Verdict, MAX_BYTES, MAX_LINES};
 
-/// A generated text, with its verdict where the generator knows it.
+/// In so many of 100 seeds the text is a web.
+const WEBS: usize = 8;
+
+/// A generated text, with its answer where the generator knows it.
 #[derive(Clone, Debug)]
 pub struct Sample {
     pub text: Vec<u8>,
-    pub expected: Option<Verdict>,
+    pub expected: Option<Answer>,
 }
 
 /// The text of a seed.
@@ -30,8 +34,16 @@ pub fn generate(seed: u64) -> Vec<u8> {
     sample(seed).text
 }
 
-/// The text of a seed, with its verdict where that is known.
+/// The text of a seed, with its answer where that is known.
 pub fn sample(seed: u64) -> Sample {
+    match Random::new(!seed).percent(WEBS) {
+        true => web_sample(seed),
+        false => mixed_sample(seed),
+    }
+}
+
+/// A text of any of the other kinds, with its answer where that is known.
+pub fn mixed_sample(seed: u64) -> Sample {
     let random = &mut Random::new(seed);
     match random.below(100) {
         0..=29 => valid(random),
@@ -56,9 +68,20 @@ pub fn sample(seed: u64) -> Sample {
     }
 }
 
-/// A valid text, with its verdict.
+/// A valid text, with its answer.
 pub fn valid_sample(seed: u64) -> Sample {
     valid(&mut Random::new(seed))
+}
+
+/// A valid text, most of whose steps are used again, with its answer.
+pub fn web_sample(seed: u64) -> Sample {
+    let random = &mut Random::new(seed);
+    let style = Style::web(random);
+    let mut rules = some_rules(random, 4);
+    // These two end in the empty clause early.
+    rules.retain(|rule| !matches!(*rule, "res" | "eli"));
+    rules.extend(["tra", "acy", "par"]);
+    written(derive(random, style, &rules))
 }
 
 fn valid(random: &mut Random) -> Sample {
@@ -68,7 +91,11 @@ fn valid(random: &mut Random) -> Sample {
         Style::small(random)
     };
     let rules = some_rules(random, 4);
-    let mut derivation = derive(random, style, &rules);
+    written(derive(random, style, &rules))
+}
+
+/// The written form of a derivation, shortened until it is within the limits.
+fn written(mut derivation: Derivation) -> Sample {
     let text = loop {
         let lines = derivation.lines();
         let text = write_lines(&lines);
@@ -79,7 +106,7 @@ fn valid(random: &mut Random) -> Sample {
     };
     Sample {
         text,
-        expected: Some(verdict(&derivation)),
+        expected: Some(answer(&derivation)),
     }
 }
 
@@ -109,11 +136,14 @@ fn some_rules(random: &mut Random, most: usize) -> Vec<&'static str> {
         .collect()
 }
 
-/// The verdict on a derivation's written form.
-fn verdict(derivation: &Derivation) -> Verdict {
+/// The answer to a derivation's written form.
+fn answer(derivation: &Derivation) -> Answer {
     let count = derivation.count();
     match derivation.first_empty() {
-        Some(first) => Verdict::Refuted { count, first },
-        None => Verdict::Open { count },
+        Some(first) => Answer {
+            verdict: Verdict::Refuted { count, first },
+            rests: derivation.rests_on(first),
+        },
+        None => Verdict::Open { count }.into(),
     }
 }

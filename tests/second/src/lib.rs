@@ -8,8 +8,10 @@
 //! * `parser`: one line of text to its syntax (check 2);
 //! * `reading`: what is held from line to line (checks 3 to 6);
 //! * `rules`: the twelve rules (checks 7 to 11);
+//! * `descent`: the inputs that a refutation rests on;
 //! * [`generate`]: the generator of test texts.
 
+mod descent;
 pub mod generate;
 mod parser;
 mod reading;
@@ -54,14 +56,47 @@ pub enum Verdict {
 
 impl fmt::Display for Verdict {
     /// "The program `fcheck` reads standard input and prints one line: the
-    /// word refuted, open or refused, then the verdict's numbers." The line
-    /// end is left to the caller.
+    /// word refuted, open or refused, then the verdict's numbers." This is the
+    /// answer's first line, without its line end.
     fn fmt(&self, f: &mut fmt::Formatter<'_>) -> fmt::Result {
         match self {
             Verdict::Refuted { count, first } => write!(f, "refuted {count} {first}"),
             Verdict::Open { count } => write!(f, "open {count}"),
             Verdict::Refused { number, line } => write!(f, "refused {number} {line}"),
         }
+    }
+}
+
+/// What is answered to a whole text.
+#[derive(Clone, Debug, PartialEq, Eq)]
+pub struct Answer {
+    pub verdict: Verdict,
+    /// "A refuted answer shall also name the input clauses from which its first
+    /// empty clause descends through used parents, itself if it is an input":
+    /// their numbers, rising. Other answers name none.
+    pub rests: Vec<usize>,
+}
+
+impl fmt::Display for Answer {
+    /// "`fcheck` prints them on a second line, `rests`, then the numbers
+    /// rising." The last line end is left to the caller.
+    fn fmt(&self, f: &mut fmt::Formatter<'_>) -> fmt::Result {
+        write!(f, "{}", self.verdict)?;
+        if matches!(self.verdict, Verdict::Refuted { .. }) {
+            write!(f, "\nrests")?;
+            for number in &self.rests {
+                write!(f, " {number}")?;
+            }
+        }
+        Ok(())
+    }
+}
+
+/// The answer of a verdict that rests on no input.
+impl From<Verdict> for Answer {
+    fn from(verdict: Verdict) -> Self {
+        let rests = Vec::new();
+        Answer { verdict, rests }
     }
 }
 
@@ -98,12 +133,10 @@ pub(crate) enum Check {
 }
 
 impl Check {
-    /// The verdict when this check is the first to fail, on this line.
-    fn refuse(self, line: usize) -> Verdict {
-        Verdict::Refused {
-            number: self as u8,
-            line,
-        }
+    /// The answer when this check is the first to fail, on this line.
+    fn refuse(self, line: usize) -> Answer {
+        let number = self as u8;
+        Verdict::Refused { number, line }.into()
     }
 
     /// Passes if `condition` holds, and fails with this check otherwise.
@@ -116,11 +149,11 @@ impl Check {
     }
 }
 
-/// Checks a whole text and gives its verdict.
+/// Checks a whole text and gives its answer.
 ///
 /// "`Refused(number, line)`: the first failing line, its first failing
 /// check; the text is only read."
-pub fn check(text: &[u8]) -> Verdict {
+pub fn check(text: &[u8]) -> Answer {
     // Each piece keeps its line end; "Bytes after the last line end form one
     // more line", which is then the only piece without one.
     let lines = || text.split_inclusive(|&byte| byte == b'\n');
@@ -134,5 +167,5 @@ pub fn check(text: &[u8]) -> Verdict {
             return failed.refuse(index + 1);
         }
     }
-    reading.verdict()
+    reading.answer()
 }

@@ -1,10 +1,11 @@
 //! What is held from line to line, and checks 2 to 6.
 
+use crate::descent::{rests_on, Parents};
 use crate::parser::parse_line;
-use crate::rules::check_step;
+use crate::rules::{check_step, used_parents};
 use crate::syntax::{Clause, Head, Line, Node, Step};
 use crate::{
-    Check, Verdict, MAX_ARGUMENTS, MAX_ARITY, MAX_LIST_TERMS, MAX_LITERALS, MAX_SYMBOLS,
+    Answer, Check, Verdict, MAX_ARGUMENTS, MAX_ARITY, MAX_LIST_TERMS, MAX_LITERALS, MAX_SYMBOLS,
     MAX_VARIABLE,
 };
 
@@ -17,8 +18,8 @@ pub(crate) struct Reading {
     arities: Vec<u16>,
     /// The clauses of all in and by lines so far, by number.
     clauses: Vec<Clause>,
-    /// Whether there has been a by line.
-    steps_begun: bool,
+    /// The used parents of all by lines so far, in order.
+    parents: Vec<Parents>,
     /// The number of the first empty clause.
     first_empty: Option<usize>,
 }
@@ -38,15 +39,18 @@ impl Reading {
         }
     }
 
-    /// The verdict after all lines have passed.
-    pub(crate) fn verdict(&self) -> Verdict {
+    /// The answer after all lines have passed.
+    pub(crate) fn answer(&self) -> Answer {
         let count = self.clauses.len();
         if self.require_constant().is_err() {
             return Check::Constant.refuse(0);
         }
         match self.first_empty {
-            Some(first) => Verdict::Refuted { count, first },
-            None => Verdict::Open { count },
+            Some(first) => Answer {
+                verdict: Verdict::Refuted { count, first },
+                rests: rests_on(first, count - self.parents.len(), &self.parents),
+            },
+            None => Verdict::Open { count }.into(),
         }
     }
 
@@ -61,7 +65,7 @@ impl Reading {
 
     /// "`(in CLAUSE)`: an input clause."
     fn take_input(&mut self, clause: Clause) -> Result<(), Check> {
-        Check::Order.require(!self.steps_begun)?;
+        Check::Order.require(self.parents.is_empty())?;
         self.require_constant()?;
         Check::Limit.require(clause_within_limits(&clause))?;
         Check::Symbol.require(self.symbols_fit(clause.nodes()))?;
@@ -84,7 +88,7 @@ impl Reading {
                 && lists.iter().all(|list| self.symbols_fit(list.nodes())),
         )?;
         check_step(&step, &self.clauses)?;
-        self.steps_begun = true;
+        self.parents.push(used_parents(&step));
         self.add_clause(step.claim);
         Ok(())
     }

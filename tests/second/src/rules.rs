@@ -5,6 +5,7 @@
 
 use std::ops::Range;
 
+use crate::descent::Parents;
 use crate::syntax::{Clause, Head, Literal, Node, Rule, Step, Substitution};
 use crate::Check;
 
@@ -70,6 +71,13 @@ fn uses(rule: Rule) -> [bool; 5] {
         Rule::Scalarity => [YES, YES, YES, YES, NO],
         Rule::Elimination => [YES, YES, NO, NO, NO],
     }
+}
+
+/// The numbers of a step's parents, each if the rule uses it.
+pub(crate) fn used_parents(step: &Step) -> Parents {
+    let [a_used, _, b_used, _, _] = uses(step.rule);
+    let [a, _, b, _, _] = step.numbers.map(usize::from);
+    [a_used.then_some(a), b_used.then_some(b)]
 }
 
 /// What a rule makes of its parents, besides the literals that stay.

@@ -2,12 +2,12 @@
 
 mod common;
 
-use common::{cases, last, raw, verdict, SYMBOLS};
+use common::{answer, cases, last, raw, SYMBOLS};
 
 #[test]
 fn check_1_lines() {
     let lines = |count: usize| "(sym 0)\n".to_string() + &"(in (or))\n".repeat(count - 1);
-    assert_eq!(raw(lines(1_024)), "refuted 1023 0");
+    assert_eq!(raw(lines(1_024)), "refuted 1023 0\nrests 0");
     assert_eq!(raw(lines(1_025)), "refused 1 0");
     // An unended rest is one more line.
     assert_eq!(raw(lines(1_023) + "x"), "refused 2 1024");
@@ -379,14 +379,14 @@ fn order_over_the_whole_line() {
 fn verdict_counts_clauses() {
     let refl = "(by refl 0 0 0 0 0 (let A) (let) (or (+ (sub A A))))";
     assert_eq!(raw(SYMBOLS), "open 0");
-    assert_eq!(verdict(&[refl]), "open 1");
-    assert_eq!(verdict(&["(in (or (+ (obj A))))", refl]), "open 2");
+    assert_eq!(answer(&[refl]), "open 1");
+    assert_eq!(answer(&["(in (or (+ (obj A))))", refl]), "open 2");
     assert_eq!(
-        verdict(&["(in (or (+ (obj A))))", "(in (or))", "(in (or))", refl]),
-        "refuted 4 1"
+        answer(&["(in (or (+ (obj A))))", "(in (or))", "(in (or))", refl]),
+        "refuted 4 1\nrests 1"
     );
     // An empty clause doesn't end the reading.
-    assert_eq!(verdict(&["(in (or))", "x"]), "refused 2 7");
+    assert_eq!(answer(&["(in (or))", "x"]), "refused 2 7");
 }
 
 #[test]

@@ -20,7 +20,7 @@ const C1: &str = "\
 
 #[test]
 fn c1_the_text_above() {
-    assert_eq!(raw(C1), "refuted 5 4");
+    assert_eq!(raw(C1), "refuted 5 4\nrests 0 1 2");
 }
 
 #[test]
@@ -48,7 +48,7 @@ fn c5_no_constant() {
 
 #[test]
 fn c6_empty_input() {
-    assert_eq!(raw("(sym 0)\n(in (or))\n"), "refuted 1 0");
+    assert_eq!(raw("(sym 0)\n(in (or))\n"), "refuted 1 0\nrests 0");
 }
 
 #[test]
@@ -70,7 +70,7 @@ fn c8_term_result_covers_none() {
 (in (or (- (mv (f 0) (f 0) () none))))
 (by res 1 0 0 0 0 (let) (let) (or))
 ";
-    assert_eq!(raw(text), "refuted 3 2");
+    assert_eq!(raw(text), "refuted 3 2\nrests 0 1");
 }
 
 #[test]
@@ -93,7 +93,7 @@ fn c10_each_parent_has_its_own_list() {
 (in (or (- (mem (f 1) (v 0)))))
 (by res 1 0 0 0 0 (let (f 0)) (let (f 1)) (or))
 ";
-    assert_eq!(raw(text), "refuted 3 2");
+    assert_eq!(raw(text), "refuted 3 2\nrests 0 1");
 }
 
 #[test]
@@ -125,7 +125,7 @@ fn further_bytes() {
     for seed in 0..20 {
         let within = limit_text(&mut Random::new(seed), 12, false).text;
         assert_eq!(within.len(), 65_535);
-        assert!(matches!(check(&within), Verdict::Open { .. }));
+        assert!(matches!(check(&within).verdict, Verdict::Open { .. }));
         let past = limit_text(&mut Random::new(seed), 12, true).text;
         assert_eq!(past.len(), 65_536);
         assert_eq!(raw(past), "refused 1 0");

@@ -9,7 +9,7 @@ use second::generate::limits::{limit_text, KINDS};
 use second::generate::model::{uses_first, Term, RULES};
 use second::generate::random::Random;
 use second::generate::unify::Unifier;
-use second::generate::{generate, sample, valid_sample};
+use second::generate::{generate, sample, valid_sample, web_sample};
 use second::{check, Verdict, MAX_BYTES};
 
 #[test]
@@ -33,8 +33,10 @@ fn seeds_with_large_inputs_give_a_text_soon() {
     for seed in [20452785, 1376431, 1341076] {
         let sample = soon(move || sample(seed));
         assert!(sample.text.len() <= MAX_BYTES, "seed {seed}");
-        let verdict = check(&sample.text);
-        assert_eq!(verdict, sample.expected.unwrap_or(verdict), "seed {seed}");
+        let answer = check(&sample.text);
+        if let Some(expected) = sample.expected {
+            assert_eq!(answer, expected, "seed {seed}");
+        }
     }
 }
 
@@ -66,17 +68,69 @@ fn terms_that_share_parts_are_not_built() {
 }
 
 #[test]
-fn valid_texts_get_their_verdict() {
+fn valid_texts_get_their_answer() {
     for seed in 0..3_000 {
         let sample = valid_sample(seed);
         assert_eq!(Some(check(&sample.text)), sample.expected, "seed {seed}");
-        let accepted = !matches!(sample.expected, Some(Verdict::Refused { .. }));
+        let verdict = sample.expected.map(|answer| answer.verdict);
+        let accepted = !matches!(verdict, Some(Verdict::Refused { .. }));
         assert!(accepted, "seed {seed}");
     }
 }
 
+/// How many clauses of a refuted text are reached from its first empty clause
+/// by no step, by one and by more, of the inputs and of the steps.
+fn uses(text: &[u8]) -> [[usize; 3]; 2] {
+    let text = String::from_utf8_lossy(text);
+    let clauses: Vec<&str> = text.lines().filter(|l| !l.starts_with("(sym ")).collect();
+    let mut counts = [[0; 3]; 2];
+    let Some(first) = clauses.iter().position(|line| line.ends_with(" (or))")) else {
+        return counts;
+    };
+    let mut times = vec![0; first];
+    times.push(1);
+    for number in (0..=first).rev() {
+        if times[number] > 0 {
+            for parent in parents(clauses[number]) {
+                times[parent] += 1;
+            }
+        }
+    }
+    for (clause, times) in clauses[..first].iter().zip(times) {
+        counts[usize::from(clause.starts_with("(by "))][times.min(2)] += 1;
+    }
+    counts
+}
+
+/// The used parents of a line.
+fn parents(line: &str) -> Vec<usize> {
+    let words: Vec<&str> = line.split(' ').collect();
+    let places = match words[..2] {
+        ["(by", "refl"] | ["(in", _] => vec![],
+        ["(by", "fac" | "eli"] => vec![2],
+        _ => vec![2, 4],
+    };
+    let number = |place: usize| words[place].parse().unwrap();
+    places.into_iter().map(number).collect()
+}
+
 #[test]
-fn limit_texts_get_their_verdict() {
+fn webs_leave_clauses_unused_and_use_steps_again() {
+    let (mut unused_inputs, mut unused_steps, mut webs) = (0, 0, 0);
+    for seed in 0..1_000 {
+        let sample = web_sample(seed);
+        assert_eq!(Some(check(&sample.text)), sample.expected, "seed {seed}");
+        let [inputs, steps] = uses(&sample.text);
+        unused_inputs += usize::from(inputs[0] > 0);
+        unused_steps += usize::from(steps[0] > 0);
+        webs += usize::from(steps[2] > 1);
+    }
+    let counts = [unused_inputs, unused_steps, webs];
+    assert!(counts.iter().all(|&count| count > 400), "{counts:?}");
+}
+
+#[test]
+fn limit_texts_get_their_answer() {
     for kind in 0..KINDS {
         for past in [false, true] {
             for seed in 0..10 {
@@ -98,17 +152,17 @@ fn every_verdict_and_every_rule_come_up() {
     let count = 6_000;
     for seed in 0..count {
         let sample = sample(seed);
-        let verdict = check(&sample.text);
-        if let Some(expected) = sample.expected {
-            assert_eq!(verdict, expected, "seed {seed}");
-        }
-        let (name, refused) = match verdict {
+        let answer = check(&sample.text);
+        let (name, refused) = match answer.verdict {
             Verdict::Refuted { .. } => ("refuted".to_string(), None),
             Verdict::Open { .. } => ("open".to_string(), None),
             Verdict::Refused { number, line } => {
                 (format!("refused {number}"), Some((number, line)))
             }
         };
+        if let Some(expected) = sample.expected {
+            assert_eq!(answer, expected, "seed {seed}");
+        }
         *verdicts.entry(name).or_default() += 1;
         let lines = sample.text.split(|&byte| byte == b'\n');
         for (index, line) in lines.enumerate() {
@@ -148,7 +202,7 @@ fn every_verdict_and_every_rule_come_up() {
 }
 
 #[test]
-fn random_bytes_get_a_verdict() {
+fn random_bytes_get_an_answer() {
     let mut random = Random::new(99);
     for _ in 0..2_000 {
         let len = random.below(200);
@@ -163,7 +217,7 @@ fn random_bytes_get_a_verdict() {
 }
 
 #[test]
-fn cut_texts_get_a_verdict() {
+fn cut_texts_get_an_answer() {
     // Each text cut at each place, so that every part of a form is missing
     // once.
     for seed in 0..30 {
@@ -172,7 +226,7 @@ fn cut_texts_get_a_verdict() {
             continue;
         }
         for end in 0..text.len() {
-            match check(&text[..end]) {
+            match check(&text[..end]).verdict {
                 Verdict::Refused { number, line } => assert!(
                     (number, line) == (4, 0) || (number == 2 && text[end - 1] != b'\n'),
                     "seed {seed}, end {end}: {number} {line}"

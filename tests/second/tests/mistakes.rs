@@ -2,7 +2,7 @@
 
 mod common;
 
-use common::{cases, verdict};
+use common::{answer, cases};
 
 #[test]
 fn arguments_compared_up_to_the_shorter_list() {
@@ -103,6 +103,6 @@ fn sca_between_sv_and_si() {
 fn only_the_first_step_looked_at() {
     let good = "(by refl 0 0 0 0 0 (let A) (let) (or (+ (sub A A))))";
     let bad = "(by refl 0 0 0 0 0 (let A) (let) (or))";
-    assert_eq!(verdict(&[good, good, bad]), "refused 11 8");
-    assert_eq!(verdict(&[good, good, good]), "open 3");
+    assert_eq!(answer(&[good, good, bad]), "refused 11 8");
+    assert_eq!(answer(&[good, good, good]), "open 3");
 }

@@ -3,11 +3,13 @@
 //! and terms are compared as strings. It is slow and shares no code with the
 //! checker, so that a mistake in either should show.
 
+use std::collections::{BTreeMap, BTreeSet};
+
 use second::check;
 use second::generate::generate;
 
 #[test]
-fn both_give_the_same_verdict() {
+fn both_give_the_same_answer() {
     for seed in 0..8_000 {
         let text = generate(seed);
         assert_eq!(check(&text).to_string(), naive(&text), "seed {seed}");
@@ -16,7 +18,7 @@ fn both_give_the_same_verdict() {
 
 #[test]
 #[ignore = "takes minutes; for a long run by hand"]
-fn both_give_the_same_verdict_for_long() {
+fn both_give_the_same_answer_for_long() {
     for seed in 1_000_000..1_200_000 {
         let text = generate(seed);
         assert_eq!(check(&text).to_string(), naive(&text), "seed {seed}");
@@ -30,7 +32,8 @@ struct State {
     arities: Vec<usize>,
     /// The literals of each clause, as text.
     clauses: Vec<Vec<String>>,
-    steps: usize,
+    /// The used parents of each step, by its clause's number.
+    parents: BTreeMap<usize, Vec<usize>>,
 }
 
 fn naive(text: &[u8]) -> String {
@@ -55,8 +58,26 @@ fn naive(text: &[u8]) -> String {
     }
     let count = state.clauses.len();
     match state.clauses.iter().position(|clause| clause.is_empty()) {
-        Some(first) => format!("refuted {count} {first}"),
+        Some(first) => format!("refuted {count} {first}\nrests{}", rests(&state, first)),
         None => format!("open {count}"),
+    }
+}
+
+/// The numbers of the inputs among a clause and its ancestors, with a space
+/// before each.
+fn rests(state: &State, number: usize) -> String {
+    let mut line = BTreeSet::new();
+    add_ancestors(state, number, &mut line);
+    line.retain(|ancestor| !state.parents.contains_key(ancestor));
+    line.iter().map(|input| format!(" {input}")).collect()
+}
+
+/// Adds a clause and then, unless it was there, the ancestors of its parents.
+fn add_ancestors(state: &State, number: usize, line: &mut BTreeSet<usize>) {
+    if line.insert(number) {
+        for &parent in state.parents.get(&number).into_iter().flatten() {
+            add_ancestors(state, parent, line);
+        }
     }
 }
 
@@ -74,7 +95,7 @@ fn take_line(state: &mut State, line: &Tree) -> u8 {
         state.arities.push(arity);
         return 0;
     }
-    if word == "in" && state.steps > 0 {
+    if word == "in" && !state.parents.is_empty() {
         return 3;
     }
     if !state.arities.contains(&0) {
@@ -106,13 +127,25 @@ fn take_line(state: &mut State, line: &Tree) -> u8 {
         if failed != 0 {
             return failed;
         }
-        state.steps += 1;
+        let own = state.clauses.len();
+        state.parents.insert(own, parents_of(line));
     }
     state.clauses.push(claim);
     0
 }
 
 // ----- rules -----
+
+/// The numbers of a by line's used parents.
+fn parents_of(line: &Tree) -> Vec<usize> {
+    let places = match line.item(1).text {
+        "refl" => vec![],
+        "fac" | "eli" => vec![2],
+        _ => vec![2, 4],
+    };
+    let place = |&place: &usize| number(line.item(place).text);
+    places.iter().map(place).collect()
+}
 
 fn check_step(state: &State, line: &Tree, claim: &[String]) -> u8 {
     let rule = line.item(1).text;

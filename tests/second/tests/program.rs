@@ -1,4 +1,4 @@
-//! The program: standard input to one line.
+//! The program: standard input to one line, or two where it is refuted.
 
 use std::io::Write;
 use std::process::{Command, Output, Stdio};
@@ -16,16 +16,16 @@ fn run(text: &[u8]) -> Output {
 }
 
 #[test]
-fn prints_the_verdict() {
-    for (text, line) in [
+fn prints_the_answer() {
+    for (text, lines) in [
         ("", "refused 4 0\n"),
         ("(sym 0)\n", "open 0\n"),
-        ("(sym 0)\n(in (or))\n", "refuted 1 0\n"),
+        ("(sym 0)\n(in (or))\n", "refuted 1 0\nrests 0\n"),
         ("(sym 0)\n(in (or))", "refused 2 2\n"),
     ] {
         let output = run(text.as_bytes());
         assert!(output.status.success());
-        assert_eq!(String::from_utf8_lossy(&output.stdout), line);
+        assert_eq!(String::from_utf8_lossy(&output.stdout), lines);
         assert!(output.stderr.is_empty());
     }
 }
@@ -40,7 +40,7 @@ fn stops_reading_past_the_limit() {
 
 #[test]
 #[cfg(target_os = "linux")]
-fn a_failed_read_gives_no_verdict() {
+fn a_failed_read_gives_no_answer() {
     // A directory can be opened but not read.
     let directory = std::fs::File::open("/").unwrap();
     let output = Command::new(env!("CARGO_BIN_EXE_second"))

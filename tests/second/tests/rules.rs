@@ -2,7 +2,7 @@
 
 mod common;
 
-use common::{cases, verdict};
+use common::{answer, cases};
 
 #[test]
 fn refl() {
@@ -718,7 +718,7 @@ fn filled_terms_may_be_deeper_than_written_ones() {
 #[test]
 fn claims_serve_as_parents() {
     assert_eq!(
-        verdict(&[
+        answer(&[
             "(in (or (+ (sub A B))))",
             "(in (or (+ (sub B C))))",
             "(in (or (- (sub A C))))",
@@ -726,6 +726,6 @@ fn claims_serve_as_parents() {
             "(by res 2 0 3 0 0 (let) (let) (or))",
             "(by res 2 0 3 0 0 (let) (let) (or))",
         ]),
-        "refuted 6 4"
+        "refuted 6 4\nrests 0 1 2"
     );
 }

@@ -1,16 +1,28 @@
--- `capi::fcheck_check` meets its contract: the numbers are those of what `check` answers.
+-- `capi::fcheck_check` meets its contract: the numbers and the flags are those of what `check` answers.
 -- Assumes nothing.
 use mathlib.Core.Path.{refl, ap, _∙_}
-use Rattle.capi.specs.Numbered.{wordNumber, firstNumber, secondNumber}
+use lib.ListN.{length}
+use Rattle.capi.specs.Numbered.{wordNumber, firstNumber, secondNumber, flags}
+use Rattle.capi.proofs.Flags.{length-flags}
 use Rattle.capi.proofs.fcheck_check.Statement.{statement}
 use Rattle.capi.proofs.fcheck_check.Tie as tie
 
+same-length : tie.Need-same-length
+same-length c = ap length (c .before .before .before .put-flags .ensures) ∙ length-flags _ _
+
 returns : tie.Need-returns
 returns c =
-    let answered = c .before .before .before .check .ensures .0 in
-    (c .word .ensures ∙ ap wordNumber answered, (c .before .before .first-number .ensures ∙ ap firstNumber answered, (c .before .second-number .ensures ∙ ap secondNumber answered, refl)))
+    let flagged = c .before .before .before in
+    let second = flagged .before .before .before .before in
+    let answered = second .before .before .check .ensures in (
+      c .word .ensures ∙ ap wordNumber (answered .0),
+      (
+        second .before .first-number .ensures ∙ ap firstNumber (answered .0),
+        (second .second-number .ensures ∙ ap secondNumber (answered .0), (flagged .put-flags .ensures ∙ ap (flags _) (answered .1 .0), refl)),
+      ),
+    )
 
 pub fcheck-check-spec : {M : Type 1} → statement M
 fcheck-check-spec =
     tie.close (tie.spec
-    (λ c κs. tt) (λ c κs. tt) (λ c κs. tt) (λ c κs. tt) returns)
+    (λ c κs. tt) (λ c κs. tt) (λ c κs. tt) (λ c κs. tt) (λ c κs. tt) same-length returns)

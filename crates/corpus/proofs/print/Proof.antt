@@ -1,15 +1,15 @@
--- `corpus::print` is safe and ends: the line lies within the buffer.
+-- `corpus::print` is safe and ends: the lines lie within the buffer.
 -- Assumes nothing.
 use borrow.Author.Needs.{needs}
-use Rattle.answer.proofs.Stores.{line-counts}
+use Rattle.answer.proofs.Stores.{lines-counts}
 use Rattle.corpus.proofs.print.Statement.{statement}
 use Rattle.corpus.proofs.print.Tie as tie
 
 array-share-prefix-out : tie.Need-array-share-prefix-out
-array-share-prefix-out c = line-counts _ _ (c .line .ensures .0) (c .line .ensures .1) .0
+array-share-prefix-out c = lines-counts _ _ _ (c .lines .ensures .0) (c .lines .ensures .1) .0
 
 slice-aggregate-write-all : tie.Need-slice-aggregate-write-all
-slice-aggregate-write-all c = line-counts _ _ (c .before .line .ensures .0) (c .before .line .ensures .1) .1
+slice-aggregate-write-all c = lines-counts _ _ _ (c .before .lines .ensures .0) (c .before .lines .ensures .1) .1
 
 pub print-spec : {M : Type 1} → statement M
 print-spec =

@@ -8,14 +8,14 @@ use std::time::Duration;
 use compare::examples::{read_examples, write_example, Example};
 use compare::generated::{self, Difference, Run};
 use compare::program::Program;
-use compare::{second_line, shown};
+use compare::{second_answer, shown};
 use second::generate::{generate, sample};
 
 const USAGE: &str = "\
 usage: compare [--status] FCHECK COUNT SEED [KEEP_DIR]   the texts of COUNT seeds from SEED on
        compare [--status] FCHECK --examples DIR   the texts DIR/*.flogic, against DIR/*.answer
        compare --second   the second checker itself, on standard input
-FCHECK is a program that reads a text on standard input and prints one line. With --status its
+FCHECK is a program that reads a text on standard input and prints its answer. With --status its
 exit status is 0 where the text is accepted, 1 where it is refused and 2 after a failed read;
 without, it is 0 after every text. The texts of the first differences are kept in KEEP_DIR
 (target/compare).";
@@ -89,7 +89,7 @@ fn second() -> io::Result<()> {
     let mut text = Vec::new();
     let enough = second::MAX_BYTES as u64 + 1;
     io::stdin().lock().take(enough).read_to_end(&mut text)?;
-    io::stdout().write_all(&second_line(&text))
+    io::stdout().write_all(&second_answer(&text))
 }
 
 fn run_generated(program: Program, count: u64, seed: u64, keep: &Path) -> io::Result<Count> {
@@ -135,13 +135,13 @@ fn keep_and_print(difference: &Difference, keep: &Path) -> io::Result<()> {
     Ok(())
 }
 
-/// Each example's expected line must be the second checker's too. A failed
+/// Each example's expected answer must be the second checker's too. A failed
 /// read is one more.
 fn run_examples(program: &Program, folder: &Path) -> io::Result<Count> {
     let mut count = Count::default();
     for example in read_examples(folder)? {
         let answer = program.answer_or_failure(&example.text);
-        let second = second_line(&example.text);
+        let second = second_answer(&example.text);
         if answer == example.expected && second == example.expected {
             count.passed += 1;
             continue;

@@ -33,7 +33,7 @@ fn make(folder: &Path) -> Result<(), String> {
         return Err(missing.join("\n"));
     }
     let file = corpus.file();
-    let lines = corpus.lines();
+    let answers = corpus.answers();
     let write = |name: &str, bytes: &[u8]| {
         let path = folder.join(name);
         let parent = path.parent().unwrap_or(folder);
@@ -41,12 +41,12 @@ fn make(folder: &Path) -> Result<(), String> {
         written.map_err(|error| format!("{}: {error}", path.display()))
     };
     write("data/corpus.bin", &file)?;
-    write("stdout", &lines)?;
+    write("stdout", &answers)?;
     println!(
         "{} texts; data/corpus.bin {} bytes, stdout {} bytes",
         corpus.texts().len(),
         file.len(),
-        lines.len()
+        answers.len()
     );
     print!("{}{}", corpus.coverage, corpus.limits());
     Ok(())

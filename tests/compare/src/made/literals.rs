@@ -124,7 +124,7 @@ fn covering((first, second): (Form, Form)) -> Vec<Made> {
         format!("(or {})", literal(true, second)),
     ];
     let step = "(by res 0 0 1 0 0 (let) (let) (or))";
-    let mut all = vec![made(&units, step.into(), refused, "refuted 3 2")];
+    let mut all = vec![made(&units, step.into(), refused, "refuted 3 2\nrests 0 1")];
     for positive in [true, false] {
         let pair = [literal(positive, first), literal(positive, second)];
         // The weaker of two positive literals stays, or the stronger of two

@@ -181,7 +181,8 @@ fn step(&(rule, literals, claim, k): &Row, pairs: [Pair; 2]) -> Made {
     let expected = match (sides.agree(), claim.is_empty()) {
         (false, _) => format!("refused 10 {}", SYMBOLS.len() + clauses),
         (true, false) => format!("open {clauses}"),
-        (true, true) => format!("refuted {clauses} {}", clauses - 1),
+        // Only res claims nothing, from both inputs.
+        (true, true) => format!("refuted {clauses} {}\nrests 0 1", clauses - 1),
     };
     Made {
         text: after_symbols(&lines),

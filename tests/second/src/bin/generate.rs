@@ -60,7 +60,7 @@ fn print_stats(seed: u64, count: u64) -> io::Result<()> {
     let mut sizes = Vec::new();
     for index in 0..count {
         let text = generate(seed.wrapping_add(index));
-        let verdict = check(&text);
+        let verdict = check(&text).verdict;
         sizes.push(text.len());
         let (name, refusal) = match verdict {
             Verdict::Refuted { .. } => ("refuted".to_string(), None),

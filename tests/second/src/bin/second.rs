@@ -1,4 +1,4 @@
-//! Reads a text from standard input and prints its verdict.
+//! Reads a text from standard input and prints its answer.
 
 use std::io::{self, Read, Write};
 use std::process::ExitCode;

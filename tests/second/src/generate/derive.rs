@@ -7,8 +7,8 @@
 use std::collections::{BTreeMap, BTreeSet};
 
 use super::model::{
-    clause_terms, clause_variables, occurrence_in, occurrence_in_mut, uses_second, Atom, Clause,
-    Line, Literal, Step, Term, ARROWS, PAIRS, RULES,
+    clause_terms, clause_variables, occurrence_in, occurrence_in_mut, uses_first, uses_second,
+    Atom, Clause, Line, Literal, Step, Term, ARROWS, PAIRS, RULES,
 };
 use super::random::Random;
 use super::unify::Unifier;
@@ -22,6 +22,11 @@ const TERM_SIZE: usize = 120;
 const CLAUSE_SIZE: usize = 500;
 /// Parents that have more once they are filled aren't tried.
 const FILLED_SIZE: usize = 20_000;
+/// So many of the last places of a literal are recent.
+const RECENT: usize = 6;
+
+/// A clause's number and a position in it.
+type Place = (usize, usize);
 
 /// A derivation with its written steps.
 #[derive(Clone, Debug)]
@@ -48,6 +53,48 @@ impl Derivation {
     /// The number of the first empty clause.
     pub fn first_empty(&self) -> Option<usize> {
         (0..self.count()).find(|&number| self.clause(number).is_empty())
+    }
+
+    /// The inputs that a clause descends from, itself if it is one, rising.
+    pub fn rests_on(&self, number: usize) -> Vec<usize> {
+        let mut rests = self.ancestors().swap_remove(number);
+        rests.retain(|&ancestor| ancestor < self.inputs.len());
+        rests.into_iter().collect()
+    }
+
+    /// The last of the clauses that have the most ancestors.
+    fn longest_descent(&self) -> usize {
+        let ancestors = self.ancestors();
+        let longest = (0..self.count()).max_by_key(|&number| ancestors[number].len());
+        longest.unwrap_or(0)
+    }
+
+    /// For each clause itself and its ancestors: those of its parents together.
+    fn ancestors(&self) -> Vec<BTreeSet<usize>> {
+        let mut ancestors: Vec<BTreeSet<usize>> = Vec::new();
+        for number in 0..self.count() {
+            let mut own = BTreeSet::from([number]);
+            if let Some(step) = number.checked_sub(self.inputs.len()) {
+                for parent in self.steps[step].parents() {
+                    own.extend(&ancestors[parent]);
+                }
+            }
+            ancestors.push(own);
+        }
+        ancestors
+    }
+
+    /// Numbers the parents of the steps anew, after so many inputs were put
+    /// behind the first `inputs`.
+    fn move_steps(&mut self, inputs: usize, more: usize) {
+        for step in &mut self.steps {
+            if uses_first(step.rule) {
+                step.numbers[0] = moved(step.numbers[0], inputs, more);
+            }
+            if uses_second(step.rule) {
+                step.numbers[2] = moved(step.numbers[2], inputs, more);
+            }
+        }
     }
 
     /// The lines of its written form.
@@ -78,6 +125,8 @@ pub struct Style {
     pub steps: usize,
     /// Whether to end in the empty clause.
     pub refute: bool,
+    /// How often, in 100 cases, a parent is one of the last clauses.
+    pub recent: usize,
 }
 
 impl Style {
@@ -92,6 +141,22 @@ impl Style {
             size: 80,
             steps: random.between(1, 8),
             refute: random.percent(45),
+            recent: 0,
+        }
+    }
+
+    /// A style for a refutation by many short steps, most of them used again.
+    pub fn web(random: &mut Random) -> Style {
+        Style {
+            depth: 1,
+            variables: 2,
+            generality: *random.pick(&[0, 10]),
+            extra_literals: 0,
+            arguments: 1,
+            size: 40,
+            steps: random.between(8, 60),
+            refute: true,
+            recent: *random.pick(&[50, 80, 95]),
         }
     }
 
@@ -416,48 +481,66 @@ impl<'r> Builder<'r> {
 
     /// Tries to apply the rule to some clauses; whether it could be.
     fn apply_somewhere(&mut self, rule: &'static str) -> bool {
-        let derivation = &self.derivation;
-        let places = |fits: &dyn Fn(&Literal) -> bool| -> Vec<(usize, usize)> {
-            (0..derivation.count())
-                .flat_map(|number| {
-                    let clause = derivation.clause(number).iter().enumerate();
-                    clause.map(move |(position, literal)| (number, position, literal))
-                })
-                .filter(|&(_, _, literal)| fits(literal))
-                .map(|(number, position, _)| (number, position))
-                .collect()
-        };
-        let firsts = places(&|literal| fits_first(rule, literal));
-        let seconds = places(&|literal| fits_second(rule, literal));
-
+        let firsts = self.places(|literal| fits_first(rule, literal));
+        let seconds = self.places(|literal| fits_second(rule, literal));
         for _ in 0..12 {
-            let (mut a, mut i, mut b, mut j, mut k) = (0, 0, 0, 0, 0);
-            if rule != "refl" {
-                if firsts.is_empty() {
-                    return false;
-                }
-                (a, i) = *self.random.pick(&firsts);
-                let atom = &self.derivation.clause(a)[i].atom;
-                k = match rule {
-                    "par" => self.random.below(atom.occurrences()),
-                    "inp" => self.random.below(atom.arguments()),
-                    _ => 0,
-                };
-            }
-            if uses_second(rule) {
-                if seconds.is_empty() {
-                    return false;
-                }
-                (b, j) = *self.random.pick(&seconds);
-            } else if rule == "fac" {
-                j = self.random.below(self.derivation.clause(a).len());
-            }
-            if let Some(step) = self.apply(rule, [a, i, b, j, k]) {
+            let Some(numbers) = self.pick_numbers(rule, &firsts, &seconds) else {
+                return false;
+            };
+            if let Some(step) = self.apply(rule, numbers) {
                 self.derivation.steps.push(step);
                 return true;
             }
         }
         false
+    }
+
+    /// The clauses and positions of all literals that fit.
+    fn places(&self, fits: impl Fn(&Literal) -> bool) -> Vec<Place> {
+        let mut places = Vec::new();
+        for number in 0..self.derivation.count() {
+            let clause = self.derivation.clause(number).iter().enumerate();
+            let fitting = clause.filter(|(_, literal)| fits(literal));
+            places.extend(fitting.map(|(position, _)| (number, position)));
+        }
+        places
+    }
+
+    /// Numbers A I B J K for the rule, with literals at these places; none if
+    /// there is no place where one is needed.
+    fn pick_numbers(
+        &mut self,
+        rule: &str,
+        firsts: &[Place],
+        seconds: &[Place],
+    ) -> Option<[usize; 5]> {
+        let (mut a, mut i, mut b, mut j, mut k) = (0, 0, 0, 0, 0);
+        if rule != "refl" {
+            (a, i) = self.pick_place(firsts)?;
+            let atom = &self.derivation.clause(a)[i].atom;
+            k = match rule {
+                "par" => self.random.below(atom.occurrences()),
+                "inp" => self.random.below(atom.arguments()),
+                _ => 0,
+            };
+        }
+        if uses_second(rule) {
+            (b, j) = self.pick_place(seconds)?;
+        } else if rule == "fac" {
+            j = self.random.below(self.derivation.clause(a).len());
+        }
+        Some([a, i, b, j, k])
+    }
+
+    /// One of some places, which are in the order of their clauses.
+    fn pick_place(&mut self, places: &[Place]) -> Option<Place> {
+        let recent = self.style.recent > 0 && self.random.percent(self.style.recent);
+        let first = match recent {
+            true => places.len().saturating_sub(RECENT),
+            false => 0,
+        };
+        let places = &places[first..];
+        (!places.is_empty()).then(|| *self.random.pick(places))
     }
 
     /// The step by which the rule applies at these numbers, if it does. The
@@ -613,36 +696,26 @@ impl<'r> Builder<'r> {
         if count == 0 {
             return;
         }
-        let target = if self.random.percent(70) {
+        let target = if self.style.recent > 0 {
+            self.derivation.longest_descent()
+        } else if self.random.percent(70) {
             count - 1
         } else {
             self.random.below(count)
         };
         let literals = self.derivation.clause(target).clone();
-        let mut units: Vec<usize> = Vec::new();
         let inputs = self.derivation.inputs.len();
-        for (index, literal) in literals.iter().enumerate() {
+        for literal in &literals {
             let unit = self.opposite(literal);
             self.derivation.inputs.push(vec![unit]);
-            units.push(inputs + index);
         }
-        let moved = |number: usize| {
-            if number < inputs {
-                number
-            } else {
-                number + literals.len()
-            }
-        };
-        for step in &mut self.derivation.steps {
-            if step.rule != "refl" {
-                step.numbers[0] = moved(step.numbers[0]);
-            }
-            if uses_second(step.rule) {
-                step.numbers[2] = moved(step.numbers[2]);
-            }
-        }
+        self.derivation.move_steps(inputs, literals.len());
+        let units = (inputs..).take(literals.len()).collect();
+        self.resolve_away(moved(target, inputs, literals.len()), units);
+    }
 
-        let mut current = moved(target);
+    /// Resolves the literals of a clause away, each by the unit at its place.
+    fn resolve_away(&mut self, mut current: usize, mut units: Vec<usize>) {
         while !units.is_empty() {
             let place = self.random.below(units.len());
             let unit = units.remove(place);
@@ -678,6 +751,14 @@ impl<'r> Builder<'r> {
             taken: Vec::new(),
         };
         self.generalise_literal(&Literal::new(!literal.positive, atom), &mut generaliser)
+    }
+}
+
+/// The number of a clause after `more` inputs were put behind the first `inputs`.
+fn moved(number: usize, inputs: usize, more: usize) -> usize {
+    match number < inputs {
+        true => number,
+        false => number + more,
     }
 }
 

@@ -1,9 +1,9 @@
-//! Texts at a limit and just past it, each with its verdict.
+//! Texts at a limit and just past it, each with its answer.
 
 use super::model::{write_lines, Atom, Clause, Line, Literal, Step, Term};
 use super::random::Random;
 use super::Sample;
-use crate::{Verdict, MAX_BYTES, MAX_DEPTH, MAX_LINES, MAX_SYMBOLS};
+use crate::{Answer, Verdict, MAX_BYTES, MAX_DEPTH, MAX_LINES, MAX_SYMBOLS};
 
 /// The number of kinds of texts that [`limit_text`] knows.
 pub const KINDS: usize = 21;
@@ -84,11 +84,29 @@ const FIRST: usize = SYMBOLS.len() + 1;
 
 /// The text with the verdict open, or refused by a number on a line.
 fn sample(text: Vec<u8>, count: usize, refused: Option<(u8, usize)>) -> Sample {
-    let expected = Some(match refused {
+    let verdict = match refused {
         Some((number, line)) => Verdict::Refused { number, line },
         None => Verdict::Open { count },
-    });
-    Sample { text, expected }
+    };
+    Sample {
+        text,
+        expected: Some(verdict.into()),
+    }
+}
+
+/// The text, whose last clause is its only empty one and descends from these
+/// inputs; or refused by a number on its last line.
+fn refuted(lines: Vec<Line>, rests: Vec<usize>, refused: Option<u8>) -> Sample {
+    let count = lines.len();
+    if let Some(number) = refused {
+        return sample(text(lines), count, Some((number, FIRST + count - 1)));
+    }
+    let first = count - 1;
+    let verdict = Verdict::Refuted { count, first };
+    Sample {
+        text: text(lines),
+        expected: Some(Answer { verdict, rests }),
+    }
 }
 
 fn step(rule: &'static str, numbers: [usize; 5], lists: [Vec<Term>; 2], claim: Clause) -> Line {
@@ -289,20 +307,7 @@ fn clause_number(random: &mut Random, over: usize) -> Sample {
         [Vec::new(), Vec::new()],
         Vec::new(),
     ));
-    let expected = match over {
-        0 => Verdict::Refuted {
-            count: inputs + 1,
-            first: inputs,
-        },
-        _ => Verdict::Refused {
-            number: 7,
-            line: FIRST + inputs,
-        },
-    };
-    Sample {
-        text: text(lines),
-        expected: Some(expected),
-    }
+    refuted(lines, vec![parent], (over > 0).then_some(7))
 }
 
 /// Paramodulation at the last occurrence, or behind it.
@@ -347,7 +352,7 @@ fn filled_depth(differ: bool) -> Sample {
     } else {
         tall(constant())
     };
-    let lines = [
+    let lines = vec![
         Line::In(vec![object(false, tall(Term::Var(0)))]),
         Line::In(vec![object(true, tall(Term::Var(0)))]),
         step(
@@ -357,18 +362,7 @@ fn filled_depth(differ: bool) -> Sample {
             Vec::new(),
         ),
     ];
-    let expected = if differ {
-        Verdict::Refused {
-            number: 10,
-            line: FIRST + 2,
-        }
-    } else {
-        Verdict::Refuted { count: 3, first: 2 }
-    };
-    Sample {
-        text: text(lines),
-        expected: Some(expected),
-    }
+    refuted(lines, vec![0, 1], differ.then_some(10))
 }
 
 /// A symbol of K 8 with so many parts.

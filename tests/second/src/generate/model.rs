@@ -285,6 +285,14 @@ pub struct Step {
 }
 
 impl Step {
+    /// The numbers of the parents that it uses.
+    pub fn parents(&self) -> Vec<usize> {
+        let [a, _, b, _, _] = self.numbers;
+        let parents = [(uses_first(self.rule), a), (uses_second(self.rule), b)];
+        let used = parents.into_iter().filter(|&(used, _)| used);
+        used.map(|(_, number)| number).collect()
+    }
+
     fn write(&self, out: &mut String) {
         write!(out, "(by {}", self.rule).unwrap();
         for number in self.numbers {

@@ -8,7 +8,7 @@
 
 use second::{check, Verdict};
 
-/// The sym lines that [`verdict`] puts first.
+/// The sym lines that [`answer`] puts first.
 pub const SYMBOLS: &str = "(sym 0)\n(sym 0)\n(sym 0)\n(sym 1)\n(sym 2)\n";
 
 /// The number of the first line after the sym lines.
@@ -23,13 +23,13 @@ pub fn expand(text: &str) -> String {
         .replace('Z', "(v 2)")
 }
 
-/// The program's line for a text, given as it stands.
+/// The program's answer to a text, given as it stands.
 pub fn raw(text: impl AsRef<[u8]>) -> String {
     check(text.as_ref()).to_string()
 }
 
-/// The program's line for some lines after the sym lines.
-pub fn verdict(lines: &[&str]) -> String {
+/// The program's answer to some lines after the sym lines.
+pub fn answer(lines: &[&str]) -> String {
     let body: String = lines.iter().map(|line| expand(line) + "\n").collect();
     raw(SYMBOLS.to_string() + &body)
 }
@@ -40,7 +40,7 @@ pub fn last(inputs: &[&str], line: &str) -> u8 {
     let mut lines = inputs.to_vec();
     lines.push(line);
     let body: String = lines.iter().map(|line| expand(line) + "\n").collect();
-    match check((SYMBOLS.to_string() + &body).as_bytes()) {
+    match check((SYMBOLS.to_string() + &body).as_bytes()).verdict {
         Verdict::Refused { number, line } => {
             assert_eq!(line, FIRST + inputs.len(), "refused by {number}: {body}");
             number
