@@ -1,57 +1,34 @@
 -- Which numbers `numbersBelow` lists, and the flags one after another.
 use Prim.Native.Nat.{ℕ, zero, suc, _+_, _≤_, _<_}
 use mathlib.Core.Path.{_≡_, refl, sym, ap, _∙_}
-use mathlib.Core.Bool.{Bool, true, false, cond, _||_, or-false, or-assoc}
+use mathlib.Core.Bool.{Bool, true, false, cond}
 use mathlib.Core.List.{List, [], _∷_, _++_, append-nil, append-assoc}
 use native.Mathlib.Numerals.{add-one}
 use native.Mathlib.Omega.{arith}
-use lib.Dec.{eqb, ltb}
+use lib.Dec.{T}
 use lib.ListN.{length, drop, set, getD, length-append, length-set}
 use lib.Seq.{drop-cons, drop-length, set-at}
-use borrow.Author.Tests.{eq-eqb, ne-eqb, ltb-true, ltb-false}
 use Rattle.logic.specs.Descent.{among, numbersBelow}
+use Rattle.logic.proofs.Descending.{member→among, among→member, numbers-below, below-numbers}
 use Rattle.verdict.specs.Means.{named}
 use Rattle.capi.specs.Numbered.{flag, flags, Flagged}
 
-among-append : (n : ℕ) (a b : List ℕ) → among n (a ++ b) ≡ (among n a || among n b)
-unfolding among
-among-append n [] b = refl
-among-append n (m ∷ a) b = rw (among-append n a b) (sym (or-assoc (eqb n m) (among n a) (among n b)))
+same-test : (a b : Bool) → (T a → T b) → (T b → T a) → a ≡ b
+same-test true true h k = refl
+same-test true false h k = absurd (h tt)
+same-test false true h k = absurd (k tt)
+same-test false false h k = refl
 
--- The last number that is tested, where it is another, and where it is this one.
-another : (n m : ℕ) (b : Bool) → (n ≡ m → ⊥) → among n (cond b (m ∷ []) []) ≡ false
-unfolding among
-another n m true ne = rw (ne-eqb n m ne)
-another n m false ne = refl
+-- A number below the bound is listed exactly where it passes the test, and no other is.
+below : (m n : ℕ) (test : ℕ → Bool) → n < m → among n (numbersBelow m test) ≡ test n
+below m n test h =
+    same-test (among n (numbersBelow m test)) (test n) (λ t. numbers-below m test n (among→member n (numbersBelow m test) t) .1)
+    (λ t. member→among n (numbersBelow m test) (below-numbers m test n h t))
 
-this : (n : ℕ) (b : Bool) → among n (cond b (n ∷ []) []) ≡ b
-unfolding among
-this n true = rw (eq-eqb n n refl)
-this n false = refl
-
--- A number that is not below the bound is not listed.
-pub not-below : (m n : ℕ) (test : ℕ → Bool) → m ≤ n → among n (numbersBelow m test) ≡ false
-unfolding numbersBelow among
-not-below zero n test h = refl
-not-below (suc m) n test h =
-    among-append n (numbersBelow m test) _ ∙ rw (not-below m n test (omega arith), another n m (test m) (λ e. omega arith))
-
--- A number below it is listed exactly where it passes the test.
-below-at : (m n : ℕ) (test : ℕ → Bool) (b : Bool) → ltb n m ≡ b → n < suc m → (n < m → among n (numbersBelow m test) ≡ test n)
-    → among n (numbersBelow (suc m) test) ≡ test n
-unfolding numbersBelow
-below-at m n test true e h before =
-    let small = ltb-true n m e in
-    among-append n (numbersBelow m test) _ ∙ rw (before small, another n m (test m) (λ q. omega arith)) (or-false _)
-below-at m n test false e h before =
-    let large = ltb-false n m e in
-    let same : m ≡ n = omega arith in
-    among-append n (numbersBelow m test) _ ∙ rw (not-below m n test large)
-    (ap (λ (k : ℕ). among n (cond (test k) (k ∷ []) [])) same ∙ this n (test n))
-
-pub below : (m n : ℕ) (test : ℕ → Bool) → n < m → among n (numbersBelow m test) ≡ test n
-below zero n test h = absurd (omega arith)
-below (suc m) n test h = below-at m n test (ltb n m) refl h (below m n test)
+not-below : (m n : ℕ) (test : ℕ → Bool) → m ≤ n → among n (numbersBelow m test) ≡ false
+not-below m n test h =
+    same-test (among n (numbersBelow m test)) false (λ t. let w = numbers-below m test n (among→member n (numbersBelow m test) t) in absurd (omega (arith, w .0)))
+    (λ t. absurd t)
 
 pub length-flags : (n : ℕ) (ns : List ℕ) → length (flags n ns) ≡ n
 unfolding flags

@@ -69,6 +69,11 @@ module _ (sizes : List ℕ) (held n : ℕ) (P : NoneBefore sizes held n) where
   unfolding NoneBefore firstEmpty
   all-passed l cs e S = sym (P cs e S ∙ rw (drop-of-length-le cs {i = n} (omega arith)) (omega arith))
 
+-- The clauses are the inputs and the claims.
+pub clause-count : (st : State) → length (clauses st) ≡ length (st .inputs) + length (st .steps)
+unfolding clauses
+clause-count st = length-append (st .inputs) (map claimOf (st .steps)) ∙ rw (length-map (st .steps) claimOf)
+
 -- The answer, from what the state that the code holds says.
 module _ {depth : ℕ} {text : List ℕ} {held : code.HeldState} {st : State} (R : Represents depth text held st) where
   pub symbols-within : held .symbols ≤ length (held .counts)
@@ -101,8 +106,7 @@ module _ {depth : ℕ} {text : List ℕ} {held : code.HeldState} {st : State} (R
 
   pub named-walked : {ps qs : List ℕ} {first : ℕ} → Parented st ps qs → ParentsFall (length (st .inputs)) (st .steps) → first < held .clauses → held .clauses ≤ office .lines →
       Refuted (held .clauses) first ≡ finish st → (rests : List Bool) → rests ≡ inputsFrom ps qs (held .inputs) first → named rests ≡ restsIn st (finish st)
-  unfolding named restsIn clauses
+  unfolding named restsIn
   named-walked {ps} {qs} {first} P falls l room e rests g =
-      let n : length (clauses st) ≡ length (st .inputs) + length (st .steps) = length-append (st .inputs) (map claimOf (st .steps)) ∙ rw (length-map (st .steps) claimOf) in
-      let w = walk-rests (length (st .inputs)) (st .steps) ps qs (P .first) (P .second) falls (omega (arith, R .count, n)) first (omega (arith, R .count, n)) in
+      let w = walk-rests (length (st .inputs)) (st .steps) ps qs (P .first) (P .second) falls (omega (arith, R .count, clause-count st)) first (omega (arith, R .count, clause-count st)) in
       rw (← e, g, R .inputs) w

@@ -41,7 +41,7 @@ use Rattle.verdict.specs.Checks.{readings, stateOf}
 use Rattle.verdict.specs.Means.{named}
 use Rattle.verdict.specs.Answer.{stepFailure, failure, finish, readOn, restsIn}
 use Rattle.verdict.specs.Running.{lineBytes, HeldOf, JudgesRead, FirstFailing, Parented, Finishes, Answers}
-use Rattle.verdict.proofs.Ends.{symbols-within}
+use Rattle.verdict.proofs.Ends.{clause-count, symbols-within}
 use Rattle.verdict.proofs.Entailed.{Good, good-fresh, good-after, empty-list}
 
 -- Checks 2 to 6, and then those of a step.
@@ -325,10 +325,6 @@ held-set : (f : Step → ℕ) (n : ℕ) (ps : List ℕ) (ss : List Step) (m x : 
 unfolding HeldFrom
 held-set f n ps [] m x h w = tt
 held-set f n ps (s ∷ ss) m x h w = (getD-set-other ps m n x 0 (λ e. absurd (omega arith)) ∙ w .0, held-set f (suc n) ps ss m x (omega arith) (w .1))
-
-clause-count : (st : State) → length (clauses st) ≡ length (st .inputs) + length (st .steps)
-unfolding clauses
-clause-count st = length-append (st .inputs) (map claimOf (st .steps)) ∙ rw (length-map (st .steps) claimOf)
 
 in-order : (st : State) (l : Line) → readFailure st (form l) ≡ 0 → T (ordered st l)
 unfolding readFailure lineFailure
