@@ -10,7 +10,7 @@ use Rattle.logic.specs.Each.{eachTerms, eachTerm, eachAtom, atomOver, de
 use Rattle.logic.specs.Rules.{bare, bareResult}
 use Rattle.logic.specs.Structure.{Structure}
 use Rattle.logic.proofs.Both.{left}
-use Rattle.logic.proofs.Parts.{placed-each, link-parts, link-over, obj-over, arrow-parts, arrow-over, method-parts, method-over, replaced-over}
+use Rattle.logic.proofs.Parts.{link-parts, link-over, obj-over, arrow-parts, arrow-over, method-parts, method-over, object-over, argument-over, replaced-over}
 
 module _ (p : ℕ → Bool) (s : ℕ → ℕ → Bool) where
   bare-result : (b : Bool) (r : Result) → T (allowedResult b r) → T (eachTerms p s (resultTerms r)) →
@@ -41,10 +41,8 @@ everything table =
       sub-trans = λ {a} {b} {c} h w. link-over never d Sub a c (link-parts never d Sub a b h .0) (link-parts never d Sub b c w .1);
       sub-antisym = λ {a} {b} h w. link-over never d Eq a b (link-parts never d Sub a b h .0) (link-parts never d Sub a b h .1);
       mem-sub = λ {a} {b} {c} h w. link-over never d Mem a c (link-parts never d Mem a b h .0) (link-parts never d Sub b c w .1);
-      sub-object = λ {g} {o} {m} {q} {r} {ts} t h w.
-          let k = method-parts never d g o m ts r h in method-over never d g q m ts r (link-parts never d Sub q o w .0) (k .1) (k .2) (k .3);
-      sub-argument = λ {g} {o} {m} {q} {p} {r} {ts} {us} {k} t h v w.
-          let z = method-parts never d g o m ts r h in method-over never d g o m us r (z .0) (z .1) (placed-each never d v (link-parts never d Sub q p w .0) (z .2)) (z .3);
+      sub-object = λ {g} {o} {m} {q} {ts} {r} t h w. object-over never d g o m q ts r h (link-parts never d Sub q o w .0);
+      sub-argument = λ {g} {o} {m} {q} {p} {ts} {us} {r} t h v w. argument-over never d g o m r v h (link-parts never d Sub q p w .0);
       sub-result = λ {g} {o} {m} {r} {s} {ts} t h w.
           let k = method-parts never d g o m ts r h in method-over never d g o m ts s (k .0) (k .1) (k .2) (link-parts never d Sub r s w .1);
       scalar-eq = λ {g} {o} {m} {r} {s} {ts} t h w. link-over never d Eq r s (method-parts never d g o m ts r h .3) (method-parts never d g o m ts s w .3);

@@ -1,6 +1,8 @@
 pub mod Both
 pub mod Table
 pub mod Steps
+pub mod Former
+pub mod Staying
 pub mod Filling
 pub mod Finding
 pub mod Instances

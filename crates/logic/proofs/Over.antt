@@ -14,7 +14,7 @@ use Rattle.logic.proofs.Both.{left, right, both}
 use Rattle.logic.proofs.Finding.{found-map, atom-replaced}
 use Rattle.logic.proofs.Instances.{at-fill}
 use Rattle.logic.proofs.Ground.{atom-each-fill}
-use Rattle.logic.proofs.Parts.{placed-each, link-parts, link-over, method-parts, method-over, replaced-over}
+use Rattle.logic.proofs.Parts.{link-parts, link-over, method-parts, method-over, object-over, argument-over, replaced-over}
 
 -- A clause whose atoms are allowed and over p and s.
 unfoldable pub Over : (ℕ → Bool) → (ℕ → ℕ → Bool) → Clause → Type 0
@@ -38,9 +38,8 @@ module _ (p : ℕ → Bool) (s : ℕ → ℕ → Bool) where
   row-over Row.acy h k = (link-over p s _ _ _ (link-parts p s _ _ _ (h .0) .0) (link-parts p s _ _ _ (h .0) .1), tt)
   row-over Row.tra h k = (link-over p s _ _ _ (link-parts p s _ _ _ (h .0) .0) (link-parts p s _ _ _ (k .0) .1), tt)
   row-over Row.inc h k = (link-over p s _ _ _ (link-parts p s _ _ _ (h .0) .0) (link-parts p s _ _ _ (k .0) .1), tt)
-  row-over (Row.inh t) h k = let w = method-parts p s _ _ _ _ _ (h .0) in (method-over p s _ _ _ _ _ (link-parts p s _ _ _ (k .0) .0) (w .1) (w .2) (w .3), tt)
-  row-over (Row.inp t q) h k =
-      let w = method-parts p s _ _ _ _ _ (h .0) in (method-over p s _ _ _ _ _ (w .0) (w .1) (placed-each p s q (link-parts p s _ _ _ (k .0) .0) (w .2)) (w .3), tt)
+  row-over (Row.inh t) h k = (object-over p s _ _ _ _ _ _ (h .0) (link-parts p s _ _ _ (k .0) .0), tt)
+  row-over (Row.inp t q) h k = (argument-over p s _ _ _ _ q (h .0) (link-parts p s _ _ _ (k .0) .0), tt)
   row-over (Row.out t) h k = let w = method-parts p s _ _ _ _ _ (h .0) in (method-over p s _ _ _ _ _ (w .0) (w .1) (w .2) (link-parts p s _ _ _ (k .0) .1), tt)
   row-over (Row.sca t t′) h k = (link-over p s _ _ _ (method-parts p s _ _ _ _ _ (h .0) .3) (method-parts p s _ _ _ _ _ (k .0) .3), tt)
 

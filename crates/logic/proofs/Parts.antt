@@ -109,6 +109,16 @@ module _ (p : ℕ → Bool) (s : ℕ → ℕ → Bool) where
   unfolding allowed allowedResult resultTerms eachTerm
   method-over a o m ts r ho hm hs hr = arrow-over a o m ts (value r) tt (ho, hm, hs, both (E r) true hr tt)
 
+  -- Another object, and another argument; the result stays.
+  pub object-over : (a : Arrow) (o m q : Term) (ts : Terms) (r : Result) → T (atomOver p s (method a o m ts r)) → T (E q) → T (atomOver p s (method a q m ts r))
+  unfolding allowed
+  object-over a o m q ts r h k = let w = arrow-parts a o m ts r h in arrow-over a q m ts r (arrow-allowed a o m ts r h) (k, w .1, w .2, w .3)
+
+  pub argument-over : (a : Arrow) (o m : Term) {q t : Term} {k : ℕ} {ts us : Terms} (r : Result) → Placed q k t ts us → T (atomOver p s (method a o m ts r)) → T (E q) → T (atomOver p s (method a o m us r))
+  unfolding allowed
+  argument-over a o m {ts = ts} {us} r v h k =
+      let w = arrow-parts a o m ts r h in arrow-over a o m us r (arrow-allowed a o m ts r h) (w .0, w .1, placed-each p s v k (w .2), w .3)
+
   pub replaced-over : (a b : Term) (x y : Atom) → T (E b) → T (atomOver p s x) → ReplacedAtom a b x y → T (atomOver p s y)
   unfolding atomOver eachAtom ReplacedAtom
   replaced-over a b x y h w r =

@@ -40,7 +40,7 @@ rewrite k forward σ misses m = misshapen
 rewrite k forward σ (hits t) m =
     onPlus m (λ y. onLink k y (λ s u. concludes (equal (one (fill σ (t .term))) (one (agreeing forward s u))) (t .with σ (replacing forward s u) ∷ [])))
 
--- The targets: the second term of a link; the object, an argument and the result of a signature with a term result.
+-- The targets: the second term of a link; the object, an argument and the term result of a signature.
 unfoldable pub linkAim : Link → Atom → Aim
 linkAim k (link l p q) = ite (link? k l) (hits (record { term = q; with = λ σ u. plus (link k (fill σ p) u) })) misses
 linkAim k (obj t) = misses
@@ -50,16 +50,16 @@ unfoldable pub resultAim : Result → (Term → Aim) → Aim
 resultAim (value t) f = f t
 resultAim none f = misses
 
-unfoldable pub methodAim : Atom → (Arrow → Term → Term → Terms → Term → Aim) → Aim
+unfoldable pub methodAim : Atom → (Arrow → Term → Term → Terms → Result → Aim) → Aim
 methodAim (link l t u) f = misses
 methodAim (obj t) f = misses
-methodAim (method a o m ts r) f = cond (signature a) (resultAim r (f a o m ts)) misses
+methodAim (method a o m ts r) f = cond (signature a) (f a o m ts r) misses
 
-unfoldable pub objectAim : Arrow → Term → Term → Terms → Term → Aim
-objectAim a o m ts r = hits (record { term = o; with = λ σ u. plus (method a u (fill σ m) (fills σ ts) (value (fill σ r))) })
+unfoldable pub objectAim : Arrow → Term → Term → Terms → Result → Aim
+objectAim a o m ts r = hits (record { term = o; with = λ σ u. plus (method a u (fill σ m) (fills σ ts) (fillResult σ r)) })
 
-unfoldable pub outputAim : Arrow → Term → Term → Terms → Term → Aim
-outputAim a o m ts r = hits (record { term = r; with = λ σ u. plus (method a (fill σ o) (fill σ m) (fills σ ts) (value u)) })
+unfoldable pub outputAim : Arrow → Term → Term → Terms → Result → Aim
+outputAim a o m ts x = resultAim x (λ r. hits (record { term = r; with = λ σ u. plus (method a (fill σ o) (fill σ m) (fills σ ts) (value u)) }))
 
 -- Argument k, and the filled arguments with another term in its place.
 pub record Argument : Type 0 where
@@ -71,8 +71,8 @@ argumentAim k nil f = misses
 argumentAim zero (cons t ts) f = f (record { term = t; with = λ σ u. cons u (fills σ ts) })
 argumentAim (suc k) (cons t ts) f = argumentAim k ts (λ g. f (record { term = g .term; with = λ σ u. cons (fill σ t) (g .with σ u) }))
 
-unfoldable pub inputAim : ℕ → Arrow → Term → Term → Terms → Term → Aim
-inputAim k a o m ts r = argumentAim k ts (λ g. hits (record { term = g .term; with = λ σ u. plus (method a (fill σ o) (fill σ m) (g .with σ u) (value (fill σ r))) }))
+unfoldable pub inputAim : ℕ → Arrow → Term → Term → Terms → Result → Aim
+inputAim k a o m ts r = argumentAim k ts (λ g. hits (record { term = g .term; with = λ σ u. plus (method a (fill σ o) (fill σ m) (g .with σ u) (fillResult σ r)) }))
 
 unfoldable pub positiveAim : Literal → (Atom → Aim) → Aim
 positiveAim (lit Positive x) f = f x
@@ -105,23 +105,25 @@ link-rewrite k σ (link l p q) m = go (link? k l)
 link-rewrite k σ (obj t) m = refl
 link-rewrite k σ (method a o n ts r) m = refl
 
--- A signature with a term result, and what is aimed at in it.
-method-rewrite : (d : Bool) (σ : Substitution) (x : Atom) (m : Literal) (f : Arrow → Term → Term → Terms → Term → Conclusion) (g : Arrow → Term → Term → Terms → Term → Aim) →
-    ((a : Arrow) (o n : Term) (ts : Terms) (r : Term) → f a (fill σ o) (fill σ n) (fills σ ts) (fill σ r) ≡ rewrite Sub d σ (g a o n ts r) m) →
+-- A signature, and what is aimed at in it.
+method-rewrite : (d : Bool) (σ : Substitution) (x : Atom) (m : Literal) (f : Arrow → Term → Term → Terms → Result → Conclusion) (g : Arrow → Term → Term → Terms → Result → Aim) →
+    ((a : Arrow) (o n : Term) (ts : Terms) (r : Result) → f a (fill σ o) (fill σ n) (fills σ ts) (fillResult σ r) ≡ rewrite Sub d σ (g a o n ts r) m) →
     onMethod signature (fillAtom σ x) f ≡ rewrite Sub d σ (methodAim x g) m
-unfolding fillAtom fillResult onMethod onResult methodAim resultAim rewrite
+unfolding fillAtom onMethod methodAim rewrite
 method-rewrite d σ (link l t u) m f g e = refl
 method-rewrite d σ (obj t) m f g e = refl
-method-rewrite d σ (method a o n ts none) m f g e = go (signature a)
+method-rewrite d σ (method a o n ts r) m f g e = go (signature a)
   where
-    go : (b : Bool) → cond b misshapen misshapen ≡ rewrite Sub d σ (cond b misses misses) m
-    go true = refl
-    go false = refl
-method-rewrite d σ (method a o n ts (value r)) m f g e = go (signature a)
-  where
-    go : (b : Bool) → cond b (f a (fill σ o) (fill σ n) (fills σ ts) (fill σ r)) misshapen ≡ rewrite Sub d σ (cond b (g a o n ts r) misses) m
+    go : (b : Bool) → cond b (f a (fill σ o) (fill σ n) (fills σ ts) (fillResult σ r)) misshapen ≡ rewrite Sub d σ (cond b (g a o n ts r) misses) m
     go true = e a o n ts r
     go false = refl
+
+-- Its result, where that is a term.
+result-rewrite : (d : Bool) (σ : Substitution) (r : Result) (m : Literal) (f : Term → Conclusion) (g : Term → Aim) →
+    ((t : Term) → f (fill σ t) ≡ rewrite Sub d σ (g t) m) → onResult (fillResult σ r) f ≡ rewrite Sub d σ (resultAim r g) m
+unfolding fillResult onResult resultAim rewrite
+result-rewrite d σ (value t) m f g e = e t
+result-rewrite d σ none m f g e = refl
 
 positive-rewrite : (d : Bool) (σ : Substitution) (l m : Literal) (f : Atom → Conclusion) (g : Atom → Aim) →
     ((x : Atom) → f (fillAtom σ x) ≡ rewrite Sub d σ (g x) m) → onPlus (fillLiteral σ l) f ≡ rewrite Sub d σ (positiveAim l g) m
@@ -171,4 +173,5 @@ inp-rewrites k σ l m =
 
 pub out-rewrites : (k : ℕ) (σ : Substitution) (l m : Literal) → tableRow k Out (fillLiteral σ l) m ≡ rewrite Sub true σ (aim k Out l) m
 unfolding tableRow conclude-out onSignature onSub aim outputAim rewrite
-out-rewrites k σ l m = positive-rewrite true σ l m _ _ (λ x. method-rewrite true σ x m _ outputAim (λ a o n ts r. refl))
+out-rewrites k σ l m =
+    positive-rewrite true σ l m _ _ (λ x. method-rewrite true σ x m _ outputAim (λ a o n ts r. result-rewrite true σ r m _ _ (λ t. refl)))

@@ -12,7 +12,7 @@ use Rattle.logic.specs.declared.Link.the-variants.{Eq, Mem, Sub}
 use Rattle.logic.specs.declared.Arrow.{Arrow}
 use Rattle.logic.specs.declared.Rule.{Rule}
 use Rattle.logic.specs.declared.Rule.the-variants.{Refl, Res, Fac, Par, Acy, Tra, Inc, Inh, Inp, Out, Sca, Eli}
-use Rattle.logic.specs.Syntax.{Term, Terms, nil, cons, value, none, Atom, link, obj, method, Literal, lit, Clause}
+use Rattle.logic.specs.Syntax.{Term, Terms, nil, cons, Result, value, none, Atom, link, obj, method, Literal, lit, Clause}
 use Rattle.logic.specs.Equality.{link?}
 use Rattle.logic.specs.Fill.{fillClause}
 use Rattle.logic.specs.Occurrence.{Search, past, found}
@@ -33,9 +33,9 @@ link-finds : (l : Link) (t u : Term) (f : Term → Term → Conclusion) → onLi
 unfolding onLink
 link-finds l t u f = if-pos (link? l l) refl (f t u) misshapen
 
-method-finds : (p : Arrow → Bool) (a : Arrow) (o m : Term) (ts : Terms) (r : Term) (f : Arrow → Term → Term → Terms → Term → Conclusion) →
-    T (p a) → onMethod p (method a o m ts (value r)) f ≡ f a o m ts r
-unfolding onMethod onResult
+method-finds : (p : Arrow → Bool) (a : Arrow) (o m : Term) (ts : Terms) (r : Result) (f : Arrow → Term → Term → Terms → Result → Conclusion) →
+    T (p a) → onMethod p (method a o m ts r) f ≡ f a o m ts r
+unfolding onMethod
 method-finds p a o m ts r f h = go (p a) h
   where
     go : (b : Bool) → T b → cond b (f a o m ts r) misshapen ≡ f a o m ts r
@@ -87,17 +87,17 @@ module _ {g : Agreement} {d : Clause} {P : Type 0} where
   obj-found (obj t) f e k = k t refl e
   obj-found (method a o m ts r) f e k = not-misshapen e
 
-  method-found : (p : Arrow → Bool) (x : Atom) (f : Arrow → Term → Term → Terms → Term → Conclusion) → onMethod p x f ≡ concludes g d →
-      ((a : Arrow) (o m : Term) (ts : Terms) (r : Term) → T (p a) → x ≡ method a o m ts (value r) → f a o m ts r ≡ concludes g d → P) → P
-  unfolding onMethod onResult
+  result-found : (r : Result) (f : Term → Conclusion) → onResult r f ≡ concludes g d → ((t : Term) → r ≡ value t → f t ≡ concludes g d → P) → P
+  unfolding onResult
+  result-found (value t) f e k = k t refl e
+  result-found none f e k = not-misshapen e
+
+  method-found : (p : Arrow → Bool) (x : Atom) (f : Arrow → Term → Term → Terms → Result → Conclusion) → onMethod p x f ≡ concludes g d →
+      ((a : Arrow) (o m : Term) (ts : Terms) (r : Result) → T (p a) → x ≡ method a o m ts r → f a o m ts r ≡ concludes g d → P) → P
+  unfolding onMethod
   method-found p (link l t u) f e k = not-misshapen e
   method-found p (obj t) f e k = not-misshapen e
-  method-found p (method a o m ts none) f e k = go (p a) e
-    where
-      go : (b : Bool) → cond b misshapen misshapen ≡ concludes g d → P
-      go true e = not-misshapen e
-      go false e = not-misshapen e
-  method-found p (method a o m ts (value r)) f e k = go (p a) (λ h. k a o m ts r h refl) e
+  method-found p (method a o m ts r) f e k = go (p a) (λ h. k a o m ts r h refl) e
     where
       go : (b : Bool) → (T b → f a o m ts r ≡ concludes g d → P) → cond b (f a o m ts r) misshapen ≡ concludes g d → P
       go true k e = k tt e
@@ -121,9 +121,16 @@ module _ {g : Agreement} {d : Clause} {P : Type 0} where
       ((t u : Term) → l ≡ plus (link n t u) → f t u ≡ concludes g d → P) → P
   sub-found n l f e k = plus-found l _ e (λ x e₁ e₂. link-found n x f e₂ (λ t u e₃. k t u (e₁ ∙ ap plus e₃)))
 
-  arrow-found : (p : Arrow → Bool) (l : Literal) (f : Arrow → Term → Term → Terms → Term → Conclusion) → onPlus l (λ x. onMethod p x f) ≡ concludes g d →
-      ((a : Arrow) (o m : Term) (ts : Terms) (r : Term) → T (p a) → l ≡ plus (method a o m ts (value r)) → f a o m ts r ≡ concludes g d → P) → P
+  arrow-found : (p : Arrow → Bool) (l : Literal) (f : Arrow → Term → Term → Terms → Result → Conclusion) → onPlus l (λ x. onMethod p x f) ≡ concludes g d →
+      ((a : Arrow) (o m : Term) (ts : Terms) (r : Result) → T (p a) → l ≡ plus (method a o m ts r) → f a o m ts r ≡ concludes g d → P) → P
   arrow-found p l f e k = plus-found l _ e (λ x e₁ e₂. method-found p x f e₂ (λ a o m ts r h e₃. k a o m ts r h (e₁ ∙ ap plus e₃)))
+
+  -- With a term result.
+  valued-found : (p : Arrow → Bool) (l : Literal) (f : Arrow → Term → Term → Terms → Term → Conclusion) →
+      onPlus l (λ x. onMethod p x (λ a o m ts r. onResult r (f a o m ts))) ≡ concludes g d →
+      ((a : Arrow) (o m : Term) (ts : Terms) (r : Term) → T (p a) → l ≡ plus (method a o m ts (value r)) → f a o m ts r ≡ concludes g d → P) → P
+  valued-found p l f e k =
+      arrow-found p l _ e (λ a o m ts r h e₁ e₂. result-found r _ e₂ (λ t e₃. k a o m ts t h (e₁ ∙ ap (λ z. plus (method a o m ts z)) e₃)))
 
 two-finds : (A B : Parent) {i j : ℕ} {l m : Literal} {r r′ : Clause} (f : Literal → Literal → Conclusion) →
     At i l (filled A) r → At j m (filled B) r′ → conclude-two A B i j f ≡ before (f l m) (r ++ r′)
@@ -133,7 +140,7 @@ two-finds A B {i} {j} {l} {m} {r} {r′} f p q =
 
 -- A row of the table is what its function gives.
 row-finds : {k : ℕ} {rule : Rule} {l m : Literal} {g : Agreement} {new : Clause} → Row k rule l m g new → tableRow k rule l m ≡ concludes g new
-unfolding tableRow conclude-res conclude-acy conclude-link conclude-inh conclude-inp conclude-out conclude-sca onSub onSignature onScalar onPlus onMinus
+unfolding tableRow conclude-res conclude-acy conclude-link conclude-inh conclude-inp conclude-out conclude-sca onSub onSignature onScalar onPlus onMinus onResult
 row-finds Row.res = refl
 row-finds Row.acy = link-finds Sub _ _ _ ∙ link-finds Sub _ _ _
 row-finds Row.tra = link-finds Sub _ _ _ ∙ link-finds Sub _ _ _
@@ -220,8 +227,8 @@ module _ {k : ℕ} {g : Agreement} {d : Clause} {l m : Literal} where
   table-found Inp e =
       arrow-found signature l _ e (λ a o n ts r t e₁ h. sub-found Sub m _ h (λ s q e₂ h₂.
       placed-found s k ts _ h₂ (λ q′ us w. row-found e₁ e₂ (Row.inp t w))))
-  table-found Out e = arrow-found signature l _ e (λ a o n ts r t e₁ h. sub-found Sub m _ h (λ r′ s e₂. row-found e₁ e₂ (Row.out t)))
-  table-found Sca e = arrow-found scalar l _ e (λ a o n ts r t e₁ h. arrow-found scalar m _ h (λ a′ o′ n′ ts′ r′ t′ e₂. row-found e₁ e₂ (Row.sca t t′)))
+  table-found Out e = valued-found signature l _ e (λ a o n ts r t e₁ h. sub-found Sub m _ h (λ r′ s e₂. row-found e₁ e₂ (Row.out t)))
+  table-found Sca e = valued-found scalar l _ e (λ a o n ts r t e₁ h. valued-found scalar m _ h (λ a′ o′ n′ ts′ r′ t′ e₂. row-found e₁ e₂ (Row.sca t t′)))
   table-found Eli e = not-misshapen e
 
 -- Whatever the function concludes, the table infers.

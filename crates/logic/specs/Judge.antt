@@ -55,11 +55,11 @@ unfoldable pub onResult : Result → (Term → Conclusion) → Conclusion
 onResult (value t) f = f t
 onResult none f = misshapen
 
--- An arrow atom with a term result whose arrow is one of those asked for.
-unfoldable pub onMethod : (Arrow → Bool) → Atom → (Arrow → Term → Term → Terms → Term → Conclusion) → Conclusion
+-- An arrow atom whose arrow is one of those asked for.
+unfoldable pub onMethod : (Arrow → Bool) → Atom → (Arrow → Term → Term → Terms → Result → Conclusion) → Conclusion
 onMethod p (link l t u) f = misshapen
 onMethod p (obj t) f = misshapen
-onMethod p (method a o m ts r) f = cond (p a) (onResult r (f a o m ts)) misshapen
+onMethod p (method a o m ts r) f = cond (p a) (f a o m ts r) misshapen
 
 -- Argument k, and the arguments with s in its place.
 unfoldable pub onPlaced : Term → ℕ → Terms → (Term → Terms → Conclusion) → Conclusion
@@ -94,21 +94,22 @@ conclude-acy l m = onSub l (λ p q. onSub m (λ q′ p′. withNew (equal (cons 
 unfoldable pub conclude-link : Link → Literal → Literal → Conclusion
 conclude-link k l m = onPlus l (λ x. onLink k x (λ p q. onSub m (λ q′ r. withNew (equal (one q) (one q′)) (link k p r))))
 
-unfoldable pub onSignature : Literal → (Arrow → Term → Term → Terms → Term → Conclusion) → Conclusion
+unfoldable pub onSignature : Literal → (Arrow → Term → Term → Terms → Result → Conclusion) → Conclusion
 onSignature l f = onPlus l (λ x. onMethod signature x f)
 
 unfoldable pub conclude-inh : Literal → Literal → Conclusion
-conclude-inh l m = onSignature l (λ a p n ts r. onSub m (λ s p′. withNew (equal (one p) (one p′)) (method a s n ts (value r))))
+conclude-inh l m = onSignature l (λ a p n ts r. onSub m (λ s p′. withNew (equal (one p) (one p′)) (method a s n ts r)))
 
 unfoldable pub conclude-inp : ℕ → Literal → Literal → Conclusion
 conclude-inp k l m =
-    onSignature l (λ a o n ts r. onSub m (λ s q′. onPlaced s k ts (λ q us. withNew (equal (one q) (one q′)) (method a o n us (value r)))))
+    onSignature l (λ a o n ts r. onSub m (λ s q′. onPlaced s k ts (λ q us. withNew (equal (one q) (one q′)) (method a o n us r))))
 
 unfoldable pub conclude-out : Literal → Literal → Conclusion
-conclude-out l m = onSignature l (λ a o n ts r. onSub m (λ r′ s. withNew (equal (one r) (one r′)) (method a o n ts (value s))))
+conclude-out l m =
+    onSignature l (λ a o n ts x. onResult x (λ r. onSub m (λ r′ s. withNew (equal (one r) (one r′)) (method a o n ts (value s)))))
 
 unfoldable pub onScalar : Literal → (Arrow → Term → Term → Terms → Term → Conclusion) → Conclusion
-onScalar l f = onPlus l (λ x. onMethod scalar x f)
+onScalar l f = onPlus l (λ x. onMethod scalar x (λ a o n ts r. onResult r (f a o n ts)))
 
 unfoldable pub conclude-sca : Literal → Literal → Conclusion
 conclude-sca l m =

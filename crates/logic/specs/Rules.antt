@@ -110,10 +110,10 @@ pub data Row (k : ℕ) : Rule → Literal → Literal → Agreement → Clause �
       Row k Acy (plus (link Sub p q)) (plus (link Sub q′ p′)) (equal (cons p (one q)) (cons p′ (one q′))) (plus (link Eq p q) ∷ [])
   tra : {p q q′ r : Term} → Row k Tra (plus (link Sub p q)) (plus (link Sub q′ r)) (equal (one q) (one q′)) (plus (link Sub p r) ∷ [])
   inc : {p q q′ r : Term} → Row k Inc (plus (link Mem p q)) (plus (link Sub q′ r)) (equal (one q) (one q′)) (plus (link Mem p r) ∷ [])
-  inh : {a : Arrow} {p p′ m r s : Term} {ts : Terms} → T (signature a) →
-      Row k Inh (plus (method a p m ts (value r))) (plus (link Sub s p′)) (equal (one p) (one p′)) (plus (method a s m ts (value r)) ∷ [])
-  inp : {a : Arrow} {o m q q′ r s : Term} {ts us : Terms} → T (signature a) → Placed s k q ts us →
-      Row k Inp (plus (method a o m ts (value r))) (plus (link Sub s q′)) (equal (one q) (one q′)) (plus (method a o m us (value r)) ∷ [])
+  inh : {a : Arrow} {p p′ m s : Term} {ts : Terms} {r : Result} → T (signature a) →
+      Row k Inh (plus (method a p m ts r)) (plus (link Sub s p′)) (equal (one p) (one p′)) (plus (method a s m ts r) ∷ [])
+  inp : {a : Arrow} {o m q q′ s : Term} {ts us : Terms} {r : Result} → T (signature a) → Placed s k q ts us →
+      Row k Inp (plus (method a o m ts r)) (plus (link Sub s q′)) (equal (one q) (one q′)) (plus (method a o m us r) ∷ [])
   out : {a : Arrow} {o m r r′ s : Term} {ts : Terms} → T (signature a) →
       Row k Out (plus (method a o m ts (value r))) (plus (link Sub r′ s)) (equal (one r) (one r′)) (plus (method a o m ts (value s)) ∷ [])
   sca : {a b : Arrow} {o m r o′ m′ r′ : Term} {ts ts′ : Terms} → T (scalar a) → T (scalar b) →

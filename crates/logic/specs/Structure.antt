@@ -4,7 +4,7 @@ use mathlib.Core.List.{List, [], _∷_}
 use mathlib.Core.Logic.{_⊎_}
 use lib.Dec.{T}
 use Rattle.logic.specs.Syntax.{Positive, Negative, Eq, Mem, Sub, Arrow}
-use Rattle.logic.specs.Syntax.{Term, Terms, value, Atom, link, obj, method, Literal, lit, Clause}
+use Rattle.logic.specs.Syntax.{Term, Terms, Result, value, Atom, link, obj, method, Literal, lit, Clause}
 use Rattle.logic.specs.Each.{groundTerm, groundAtom}
 use Rattle.logic.specs.Fill.{Substitution, fillClause}
 use Rattle.logic.specs.Occurrence.{ReplacedAtom}
@@ -26,12 +26,12 @@ pub record Structure (table : List ℕ) (holds : Atom → Type 0) : Type 0 where
   pub sub-antisym : {a b : Term} → holds (link Sub a b) → holds (link Sub b a) → holds (link Eq a b)
   -- H5: "mem(a,b) and sub(b,c) give mem(a,c)."
   pub mem-sub : {a b c : Term} → holds (link Mem a b) → holds (link Sub b c) → holds (link Mem a c)
-  -- H6: "An st or mt atom with a term result gives the same atom with its object, or one argument, replaced by q where sub(q, old) is
-  -- in it, and with its result replaced by s where sub(old, s) is in it."
-  pub sub-object : {g : Arrow} {o m q r : Term} {ts : Terms} → T (signature g) →
-      holds (method g o m ts (value r)) → holds (link Sub q o) → holds (method g q m ts (value r))
-  pub sub-argument : {g : Arrow} {o m q p r : Term} {ts us : Terms} {k : ℕ} → T (signature g) →
-      holds (method g o m ts (value r)) → Placed q k p ts us → holds (link Sub q p) → holds (method g o m us (value r))
+  -- H6: "An st or mt atom, with a term result or with none, gives the same atom with its object, or one argument, replaced by q where
+  -- sub(q, old) is in it. One with a term result gives the same atom with its result replaced by s where sub(old, s) is in it."
+  pub sub-object : {g : Arrow} {o m q : Term} {ts : Terms} {r : Result} → T (signature g) →
+      holds (method g o m ts r) → holds (link Sub q o) → holds (method g q m ts r)
+  pub sub-argument : {g : Arrow} {o m q p : Term} {ts us : Terms} {r : Result} {k : ℕ} → T (signature g) →
+      holds (method g o m ts r) → Placed q k p ts us → holds (link Sub q p) → holds (method g o m us r)
   pub sub-result : {g : Arrow} {o m r s : Term} {ts : Terms} → T (signature g) →
       holds (method g o m ts (value r)) → holds (link Sub r s) → holds (method g o m ts (value s))
   -- H7: "Two sv atoms, or two si atoms, that are alike but for their results r and s give eq(r,s)."

@@ -20,7 +20,7 @@ use Rattle.text.specs.Heads.{kindNumber, head}
 use Rattle.text.proofs.Positions.{Tail, strip-tail, skip-tail, landed}
 use Rattle.text.proofs.Nesting.{skip-term, skip-arguments}
 use Rattle.text.proofs.Heads.{afterHead, head-of, head-other, plus-of, plus-other}
-use Rattle.parts.specs.Shapes.{stripAt, skipAt, nextAt, positiveAt, firstAt, orPlace, ifPlace, resultAt, objectAt}
+use Rattle.parts.specs.Shapes.{stripAt, skipAt, nextAt, positiveAt, firstAt, orPlace, ifPlace, resultAt, valueAt}
 
 -- Within p, and from there on these bytes.
 pub record Stands (p : List ℕ) (at : ℕ) (bs : List ℕ) : Type 0 where
@@ -146,18 +146,17 @@ module _ (p : List ℕ) where
   past-inner n m b c v w e f =
       rw (e, f) (or-else-past (stripAt p (b ∷ v) (length p + 1)) (stripAt p (c ∷ w) (length p + 1)) (past-strip b v) ∙ past-strip c w)
 
-  -- The object of an arrow atom with a term result.
-  pub object-of : {o : ℕ} (t m : Term) (ts : Terms) (r : Term) (rest : List ℕ) → Stands p o (putTerm t (word " " (fromMethod m ts (value r) rest))) →
-      ifPlace p (stripAt p (bytes "(") (resultAt p o)) o ≡ o
-  unfolding putResult
-  object-of {o} t m ts r rest s =
+  -- The result of an arrow atom where it is a term, and where it is none.
+  pub value-of : {o : ℕ} (t m : Term) (ts : Terms) (r : Term) (rest : List ℕ) → Stands p o (putTerm t (word " " (fromMethod m ts (value r) rest))) → valueAt p o ≡ resultAt p o
+  unfolding valueAt putResult
+  value-of {o} t m ts r rest s =
       let w = term-opens r (word ")" rest) in
-      if-place-here (stripAt p (bytes "(") (resultAt p o)) o (strip-stands (bytes "(") (result-stands t m ts (value r) rest s) (w .1) .within)
+      if-place-here (stripAt p (bytes "(") (resultAt p o)) (resultAt p o) (strip-stands (bytes "(") (result-stands t m ts (value r) rest s) (w .1) .within)
 
-  pub object-none : {o : ℕ} (t m : Term) (ts : Terms) (rest : List ℕ) → Stands p o (putTerm t (word " " (fromMethod m ts none rest))) →
-      ifPlace p (stripAt p (bytes "(") (resultAt p o)) o ≡ length p + 1
-  unfolding putResult strip
-  object-none {o} t m ts rest s = if-place-past (stripAt p (bytes "(") (resultAt p o)) o (strip-past (bytes "(") (result-stands t m ts none rest s) refl)
+  pub value-none : {o : ℕ} (t m : Term) (ts : Terms) (rest : List ℕ) → Stands p o (putTerm t (word " " (fromMethod m ts none rest))) → valueAt p o ≡ length p + 1
+  unfolding valueAt putResult strip
+  value-none {o} t m ts rest s = if-place-past (stripAt p (bytes "(") (resultAt p o)) (resultAt p o) (strip-past (bytes "(") (result-stands t m ts none rest s) refl)
 
-  pub past-object : ifPlace p (stripAt p (bytes "(") (resultAt p (length p + 1))) (length p + 1) ≡ length p + 1
-  past-object = if-place-past (stripAt p (bytes "(") (resultAt p (length p + 1))) (length p + 1) (rw past-result (past-strip 40 []))
+  pub past-value : valueAt p (length p + 1) ≡ length p + 1
+  unfolding valueAt
+  past-value = if-place-past (stripAt p (bytes "(") (resultAt p (length p + 1))) (resultAt p (length p + 1)) (rw past-result (past-strip 40 []))

@@ -50,11 +50,15 @@ ifPlace p x y = cond (leb x (length p)) y (length p + 1)
 unfoldable pub resultAt : List ℕ → ℕ → ℕ
 resultAt p o = nextAt p (nextAt p (nextAt p o))
 
--- The object of a positive arrow atom with one of two heads and a term result.
+-- The same, if it is a term.
+unfoldable pub valueAt : List ℕ → ℕ → ℕ
+valueAt p o =
+    let r = resultAt p o in
+    ifPlace p (stripAt p (bytes "(") r) r
+
+-- The object of a positive arrow atom with one of two heads.
 unfoldable pub objectAt : List ℕ → List ℕ → List ℕ → ℕ → ℕ
-objectAt p v w at =
-    let o = orPlace p (stripAt p v (positiveAt p at)) (stripAt p w (positiveAt p at)) in
-    ifPlace p (stripAt p (bytes "(") (resultAt p o)) o
+objectAt p v w at = orPlace p (stripAt p v (positiveAt p at)) (stripAt p w (positiveAt p at))
 
 -- The places of the entries of the list that begins at `at`.
 unfoldable pub listAt : List ℕ → ℕ → List ℕ

@@ -11,7 +11,7 @@ ghost use mathlib.Core.Bool.{_&&_, _||_};
 ghost use Rattle.text.specs.Heads.{head, linkKind};
 ghost use Rattle.text.specs.Words.{bytes};
 ghost use Rattle.parts.specs.Shapes.{stripAt, nextAt, argumentAt, placeAt, positiveAt, negativeAt, firstAt};
-ghost use Rattle.parts.specs.Shapes.{orPlace, ifPlace, resultAt, objectAt, listAt};
+ghost use Rattle.parts.specs.Shapes.{orPlace, ifPlace, resultAt, valueAt, objectAt, listAt};
 ghost use Rattle.parts.specs.Shapes.{within as withinAt};
 ghost use Rattle.parts.specs.Shapes.{sameSignAt, atomAt, sameArrowAt, equalTests};
 
@@ -142,6 +142,15 @@ pub fn result(clause: &[u8], object: usize) -> usize
     next(clause, next(clause, next(clause, object)))
 }
 
+// The same, if it is a term.
+pub fn value(clause: &[u8], object: usize) -> usize
+    ensures { λ r. ⌜ r ≡ valueAt (now (clause .entry)) object ⌝ }
+    ensures { λ _. ⌜ now (clause .exit) ≡ now (clause .entry) ⌝ }
+{
+    let at = result(clause, object);
+    if_place(clause, word(clause, at, b"("), at)
+}
+
 // Argument n of an arrow atom whose object begins at `object`.
 pub fn argument(clause: &[u8], object: usize, n: usize) -> usize
     ensures { λ r. ⌜ r ≡ argumentAt (now (clause .entry)) (nextAt (now (clause .entry)) (nextAt (now (clause .entry)) object)) n ⌝ }
@@ -150,13 +159,12 @@ pub fn argument(clause: &[u8], object: usize, n: usize) -> usize
     listed(clause, next(clause, next(clause, object)), n)
 }
 
-// The object of a positive arrow atom with one of two heads and a term result.
+// The object of a positive arrow atom with one of two heads.
 fn object(clause: &[u8], head: &[u8], other: &[u8], at: usize) -> usize
     ensures { λ r. ⌜ r ≡ objectAt (now (clause .entry)) (now (head .entry)) (now (other .entry)) at ⌝ }
 {
     let atom = positive(clause, at);
-    let o = or_else(clause, word(clause, atom, head), word(clause, atom, other));
-    if_place(clause, word(clause, result(clause, o), b"("), o)
+    or_else(clause, word(clause, atom, head), word(clause, atom, other))
 }
 
 // The object of a positive sv or si.
@@ -167,7 +175,7 @@ pub fn scalar(clause: &[u8], at: usize) -> usize
     object(clause, b"(sv ", b"(si ", at)
 }
 
-// The object of a positive st or mt with a term result.
+// The object of a positive st or mt.
 pub fn signature(clause: &[u8], at: usize) -> usize
     ensures { λ r. ⌜ r ≡ objectAt (now (clause .entry)) (bytes "(st ") (bytes "(mt ") at ⌝ }
     ensures { λ _. ⌜ now (clause .exit) ≡ now (clause .entry) ⌝ }

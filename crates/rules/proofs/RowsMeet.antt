@@ -27,8 +27,8 @@ use Rattle.text.specs.Form.{depthOf, numbered, formedTerm, formedAtom, formedLi
 use Rattle.text.specs.Heads.{linkKind, arrowKind, kindNumber, head}
 use Rattle.text.proofs.Heads.{afterHead}
 use Rattle.text.proofs.Tests.{T-and}
-use Rattle.parts.specs.Shapes.{stripAt, nextAt, positiveAt, firstAt, ifPlace, resultAt, objectAt}
-use Rattle.parts.proofs.Placing.{Stands, positive-stands, negative-past, head-stands, head-past, next-term, inner, either-stands, either-past, past-inner, object-of, object-none, past-object}
+use Rattle.parts.specs.Shapes.{stripAt, nextAt, positiveAt, firstAt, valueAt, objectAt}
+use Rattle.parts.proofs.Placing.{Stands, positive-stands, negative-past, head-stands, head-past, next-term, inner, either-stands, either-past, past-inner, value-of, value-none, past-value}
 use Rattle.rules.proofs.Targets.{kind-link, link-object, link-arrow, link-past, past-link, past-positive, past-second}
 use Rattle.rules.proofs.Answered.{judgedOf, within-here, within-past, right-shape}
 use Rattle.rules.proofs.Meets.{Images, LiteralAt, Meets}
@@ -136,20 +136,20 @@ same-arrow (si e) (si f) = rw (e, f) (λ _. refl, λ _. tt)
 module _ (depth : ℕ) where
   -- A literal is a positive sv or si atom with a term result, whose object is at x, or it is not.
   data ScalarView (p : List ℕ) (i x : ℕ) (σ : Substitution) (v : ℕ) (c : (Arrow → Term → Term → Terms → Term → Conclusion) → Conclusion) : Type 0 where
-    no-scalar : x ≡ length p + 1 → ((f : Arrow → Term → Term → Terms → Term → Conclusion) → c f ≡ misshapen) → ScalarView p i x σ v c
-    a-scalar : (a : Arrow) (o m : Term) (ts : Terms) (r : Term) → OneOf (within p (firstAt p (bytes "(sv ") i)) a → CallAt depth p x v o m ts → TermAt depth p (resultAt p x) v r →
+    no-scalar : valueAt p x ≡ length p + 1 → ((f : Arrow → Term → Term → Terms → Term → Conclusion) → c f ≡ misshapen) → ScalarView p i x σ v c
+    a-scalar : (a : Arrow) (o m : Term) (ts : Terms) (r : Term) → OneOf (within p (firstAt p (bytes "(sv ") i)) a → CallAt depth p x v o m ts → TermAt depth p (valueAt p x) v r →
         ((f : Arrow → Term → Term → Terms → Term → Conclusion) → c f ≡ f a (fill σ o) (fill σ m) (fills σ ts) (fill σ r)) → ScalarView p i x σ v c
 
   module _ (p : List ℕ) where
-    -- From the atom on.
+    -- The result, from the atom on.
     abbrev scalarFrom : ℕ → ℕ
-    scalarFrom at = let o = inner p 4 5 at in ifPlace p (stripAt p (bytes "(") (resultAt p o)) o
+    scalarFrom at = valueAt p (inner p 4 5 at)
 
     past-scalar : scalarFrom (length p + 1) ≡ length p + 1
-    past-scalar = ap (λ o. ifPlace p (stripAt p (bytes "(") (resultAt p o)) o) (past-inner p 4 5 40 40 _ _ refl refl) ∙ past-object p
+    past-scalar = ap (valueAt p) (past-inner p 4 5 40 40 _ _ refl refl) ∙ past-value p
 
     other-scalar : {at : ℕ} (x : Atom) (rest : List ℕ) → (4 ≡ kindNumber x → ⊥) → (5 ≡ kindNumber x → ⊥) → Stands p at (putAtom x rest) → scalarFrom at ≡ length p + 1
-    other-scalar x rest e f s = ap (λ o. ifPlace p (stripAt p (bytes "(") (resultAt p o)) o) (either-past p 4 5 x rest (omega arith) (omega arith) e f s) ∙ past-object p
+    other-scalar x rest e f s = ap (valueAt p) (either-past p 4 5 x rest (omega arith) (omega arith) e f s) ∙ past-value p
 
     module _ (i v : ℕ) (σ : Substitution) where
       method-view : (b : Arrow) → (4 ≡ arrowKind b) ⊎ (5 ≡ arrowKind b) → OneOf (within p (firstAt p (bytes "(sv ") i)) b → (o m : Term) (ts : Terms) (r : Result) → LiteralAt depth p i v (lit Positive (method b o m ts r)) →
@@ -158,10 +158,10 @@ module _ (depth : ℕ) where
       method-view b k e o m ts (value r) a =
           let h = a .narrow in
           let s = either-stands p 4 5 (method b o m ts (value r)) (word ")" (a .rest)) (omega arith) k (positive-stands p (method b o m ts (value r)) (a .rest) (a .stands)) in
-          rw (object-of p o m ts r (word ")" (a .rest)) s)
-          (a-scalar b o m ts r e (call-stands depth b o m ts (value r) (word ")" (a .rest)) s (a .formed) (omega arith)) (result-at depth b o m ts r (word ")" (a .rest)) s (a .formed) (omega arith)) (λ f. refl))
+          a-scalar b o m ts r e (call-stands depth b o m ts (value r) (word ")" (a .rest)) s (a .formed) (omega arith))
+          (rw (value-of p o m ts r (word ")" (a .rest)) s) (result-at depth b o m ts r (word ")" (a .rest)) s (a .formed) (omega arith))) (λ f. refl)
       method-view b k e o m ts none a =
-          no-scalar (object-none p o m ts (word ")" (a .rest)) (either-stands p 4 5 (method b o m ts none) (word ")" (a .rest)) (omega arith) k (positive-stands p (method b o m ts none) (a .rest) (a .stands)))) (λ f. refl)
+          no-scalar (value-none p o m ts (word ")" (a .rest)) (either-stands p 4 5 (method b o m ts none) (word ")" (a .rest)) (omega arith) k (positive-stands p (method b o m ts none) (a .rest) (a .stands)))) (λ f. refl)
 
       scalar-view : (l : Literal) → LiteralAt depth p i v l → ScalarView p i (objectAt p (bytes "(sv ") (bytes "(si ") i) σ v (onScalar (fillLiteral σ l))
       unfolding objectAt firstAt onScalar onPlus onMethod onResult scalar fillLiteral fillAtom fillResult kindNumber afterHead formedLiteral
@@ -201,15 +201,15 @@ module _ (depth : ℕ) where
             let agree = calls-meet depth g h c c′ in
             let two = calls a a′ (fill σ o) (fill σ m) (fill τ o′) (fill τ m′) (fills σ ts) (fills τ ts′) in
             concluding depth _ (alike (call a (fill σ o) (fill σ m) (fills σ ts)) (call a′ (fill τ o′) (fill τ m′) (fills τ ts′))) (plus (link Eq (fill σ r) (fill τ r′)) ∷ []) (e _ ∙ f _)
-            (rw (both-within p q (c .object .stands .within) (c′ .object .stands .within)) (right-shape _ _ _ (
+            (rw (both-within p q (d .stands .within) (d′ .stands .within)) (right-shape _ _ _ (
               λ z. let (b, d) = simp T-and at z in let x = agree .0 d in two .1 (arrows .0 b, x .0, x .1, x .2),
               λ z. let x = two .0 z in simp T-and (arrows .1 (x .0), agree .1 (x .1, x .2, x .3)),
             )))
             (linked-claimed depth g h (term-deep depth d) (term-deep depth d′) Eq (bytes " (+ (eq ") (λ rest. refl))
 
-  past-scalar-object : (p : List ℕ) (i : ℕ) → i ≡ length p + 1 → objectAt p (bytes "(sv ") (bytes "(si ") i ≡ length p + 1
+  past-scalar-value : (p : List ℕ) (i : ℕ) → i ≡ length p + 1 → valueAt p (objectAt p (bytes "(sv ") (bytes "(si ") i) ≡ length p + 1
   unfolding objectAt
-  past-scalar-object p i e = rw (e, past-positive p) (past-scalar depth p)
+  past-scalar-value p i e = rw (e, past-positive p) (past-scalar depth p)
 
   -- A literal that is missing is misshapen.
   module _ (k : ℕ) (p : List ℕ) (i : ℕ) (line starts q : List ℕ) (j : ℕ) (others : List ℕ) where
@@ -220,5 +220,5 @@ module _ (depth : ℕ) where
 
     pub sca-past : (i ≡ length p + 1) ⊎ (j ≡ length q + 1) → rowAt depth Sca k p i line starts q j others ≡ Misshapen
     unfolding rowAt foundBy called agreesBy
-    sca-past (inl e) = past-shape p q _ _ _ (inl (past-scalar-object p i e))
-    sca-past (inr e) = past-shape p q _ _ _ (inr (past-scalar-object q j e))
+    sca-past (inl e) = past-shape p q _ _ _ (inl (past-scalar-value p i e))
+    sca-past (inr e) = past-shape p q _ _ _ (inr (past-scalar-value q j e))

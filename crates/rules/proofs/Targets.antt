@@ -35,11 +35,11 @@ use Rattle.text.proofs.Gives.{Gives, nothing, gives}
 use Rattle.text.proofs.Positions.{Tail, End, end-refl, strip-tail, skip-tail, item-tail, and-tail}
 use Rattle.text.specs.Heads.{linkKind, arrowKind, kindNumber, head}
 use Rattle.text.proofs.Heads.{afterHead}
-use Rattle.parts.specs.Shapes.{stripAt, nextAt, positiveAt, firstAt, orPlace, ifPlace, resultAt, objectAt, argumentAt}
+use Rattle.parts.specs.Shapes.{stripAt, nextAt, positiveAt, firstAt, valueAt, objectAt, argumentAt}
 use Rattle.filling.specs.Filled.{Filler, fillItem, itemDepth, holeDepth}
 use Rattle.filling.proofs.LineLists.{stack-sum}
 use Rattle.filling.proofs.Placed.{Argument as Chosen, first, next, replaced, hole-second, hole-object, hole-argument, hole-result}
-use Rattle.parts.proofs.Placing.{Stands, walk-stands, walk-past, none-past, fromMethod, past-inner, past-object, past-result, result-stands, either-past, either-stands, object-of, object-none, next-term, past-next, past-strip, positive-stands, negative-past, head-stands, head-past}
+use Rattle.parts.proofs.Placing.{Stands, walk-stands, walk-past, none-past, fromMethod, inner, past-inner, past-value, result-stands, either-past, either-stands, value-of, value-none, next-term, past-next, past-strip, positive-stands, negative-past, head-stands, head-past}
 use Rattle.table.specs.declared.rows.Target.{Target as Part}
 use Rattle.table.specs.declared.rows.Target.the-variants.{Nothing, Occurrence, Subclass, Member, Object as Owner, Argument as Input, Result as Output}
 use Rattle.table.specs.Rows.{targetAt, partAt}
@@ -140,39 +140,40 @@ module _ (depth : ℕ) where
           filled = λ f σ v entry new h. rw (← stack-sum depth (itemDepth depth)) (hole-second f σ w depth depth entry v new Positive l t u (fits .0) (fits .1) rest h);
         }
 
-    module _ (a : Arrow) (o m : Term) (ts : Terms) (r : Term) (fits : Fits depth w (method a o m ts (value r))) where
-      object-hole : Hole depth w (plus (method a o m ts (value r))) rest (record { term = o; with = λ σ u. plus (method a u (fill σ m) (fills σ ts) (value (fill σ r))) })
-          (word " " (putTerm m (word " " (putArguments ts (word " " (putResult (value r) (word ")" (word ")" rest))))))))
-      unfolding formedAtom termsOf termsWidth fillResult
+    module _ (a : Arrow) (o m : Term) (ts : Terms) (r : Result) (fits : Fits depth w (method a o m ts r)) where
+      object-hole : Hole depth w (plus (method a o m ts r)) rest (record { term = o; with = λ σ u. plus (method a u (fill σ m) (fills σ ts) (fillResult σ r)) })
+          (word " " (putTerm m (word " " (putArguments ts (word " " (putResult r (word ")" (word ")" rest))))))))
+      unfolding formedAtom termsOf termsWidth
       object-hole =
           let ((p, g), k) = simp T-and at (fits .0) in
           record {
             formed = p .0;
             narrow = omega (arith, fits .1);
-            filled = λ f σ u entry new h. rw (← stack-sum depth (itemDepth depth)) (hole-object f σ w depth depth entry u new Positive a o m ts (value r) (fits .0) (fits .1) rest h);
+            filled = λ f σ u entry new h. rw (← stack-sum depth (itemDepth depth)) (hole-object f σ w depth depth entry u new Positive a o m ts r (fits .0) (fits .1) rest h);
           }
 
       argument-hole : {t : Term} {k : ℕ} {more : Terms} (c : Chosen t k ts more) →
-          Hole depth w (plus (method a o m ts (value r))) rest (record { term = t; with = λ σ u. plus (method a (fill σ o) (fill σ m) (replaced σ u c) (value (fill σ r))) })
-          (putTerms more (word ")" (word " " (putResult (value r) (word ")" (word ")" rest))))))
-      unfolding formedAtom termsOf termsWidth fillResult
+          Hole depth w (plus (method a o m ts r)) rest (record { term = t; with = λ σ u. plus (method a (fill σ o) (fill σ m) (replaced σ u c) (fillResult σ r)) })
+          (putTerms more (word ")" (word " " (putResult r (word ")" (word ")" rest))))))
+      unfolding formedAtom termsOf termsWidth
       argument-hole c =
           let ((p, g), k) = simp T-and at (fits .0) in
           record {
             formed = chosen-formed depth c g;
-            narrow = omega (arith, fits .1, chosen-narrow c (resultTerms (value r)));
-            filled = λ f σ u entry new h. rw (← stack-sum depth (itemDepth depth)) (hole-argument f σ w depth depth entry u new Positive a o m ts (value r) (fits .0) (fits .1) c rest h);
+            narrow = omega (arith, fits .1, chosen-narrow c (resultTerms r));
+            filled = λ f σ u entry new h. rw (← stack-sum depth (itemDepth depth)) (hole-argument f σ w depth depth entry u new Positive a o m ts r (fits .0) (fits .1) c rest h);
           }
 
-      result-hole : Hole depth w (plus (method a o m ts (value r))) rest (record { term = r; with = λ σ u. plus (method a (fill σ o) (fill σ m) (fills σ ts) (value u)) }) (word ")" (word ")" rest))
-      unfolding formedAtom formedResult termsOf resultTerms termsWidth
-      result-hole =
-          let ((p, g), k) = simp T-and at (fits .0) in
-          record {
-            formed = k;
-            narrow = omega (arith, fits .1, join-width ts (cons r nil));
-            filled = λ f σ u entry new h. rw (← stack-sum depth (itemDepth depth)) (hole-result f σ w depth depth entry u new Positive a o m ts r (fits .0) (fits .1) rest h);
-          }
+    result-hole : (a : Arrow) (o m : Term) (ts : Terms) (r : Term) → Fits depth w (method a o m ts (value r)) →
+        Hole depth w (plus (method a o m ts (value r))) rest (record { term = r; with = λ σ u. plus (method a (fill σ o) (fill σ m) (fills σ ts) (value u)) }) (word ")" (word ")" rest))
+    unfolding formedAtom formedResult termsOf resultTerms termsWidth
+    result-hole a o m ts r fits =
+        let ((p, g), k) = simp T-and at (fits .0) in
+        record {
+          formed = k;
+          narrow = omega (arith, fits .1, join-width ts (cons r nil));
+          filled = λ f σ u entry new h. rw (← stack-sum depth (itemDepth depth)) (hole-result f σ w depth depth entry u new Positive a o m ts r (fits .0) (fits .1) rest h);
+        }
 
 -- st and mt are the signatures.
 signature-kind : (a : Arrow) → T (signature a) → (8 ≡ arrowKind a) ⊎ (9 ≡ arrowKind a)
@@ -203,17 +204,15 @@ module _ (p : List ℕ) where
   past-link Mem = ap (nextAt p) (past-strip p 40 _) ∙ past-next p
   past-link Sub = ap (nextAt p) (past-strip p 40 _) ∙ past-next p
 
-  -- The object of a signature with a term result, from its atom on.
+  -- The object of a signature, from its atom on.
   abbrev signatureFrom : ℕ → ℕ
-  signatureFrom at =
-      let o = orPlace p (stripAt p (head 8) at) (stripAt p (head 9) at) in
-      ifPlace p (stripAt p (bytes "(") (resultAt p o)) o
+  signatureFrom at = inner p 8 9 at
 
   past-signature : signatureFrom (length p + 1) ≡ length p + 1
-  past-signature = ap (λ o. ifPlace p (stripAt p (bytes "(") (resultAt p o)) o) (past-inner p 8 9 40 40 _ _ refl refl) ∙ past-object p
+  past-signature = past-inner p 8 9 40 40 _ _ refl refl
 
   other-signature : {at : ℕ} (x : Atom) (rest : List ℕ) → (8 ≡ kindNumber x → ⊥) → (9 ≡ kindNumber x → ⊥) → Stands p at (putAtom x rest) → signatureFrom at ≡ length p + 1
-  other-signature x rest e f s = ap (λ o. ifPlace p (stripAt p (bytes "(") (resultAt p o)) o) (either-past p 8 9 x rest (omega arith) (omega arith) e f s) ∙ past-object p
+  other-signature x rest e f s = either-past p 8 9 x rest (omega arith) (omega arith) e f s
 
   past-argument : (k : ℕ) → argumentAt p (length p + 1) k ≡ length p + 1
   unfolding argumentAt toArgument strip
@@ -244,7 +243,7 @@ module _ (p : List ℕ) where
   past-target Member k = past-second Mem
   past-target Owner k = past-object-at
   past-target Input k = ap (λ o. argumentAt p (nextAt p (nextAt p o)) k) past-object-at ∙ past-input k
-  past-target Output k = ap (resultAt p) past-object-at ∙ past-result p
+  past-target Output k = ap (valueAt p) past-object-at ∙ past-value p
 
 module _ (depth : ℕ) where
   -- Where the targets of a literal stand.
@@ -284,23 +283,19 @@ module _ (depth : ℕ) where
         positive-placed l rest (λ at. nextAt p (stripAt p (head 1) at)) (linkAim Mem) (past-link p Mem) (λ x at i s. link-placed Mem x rest i s)
 
     -- What is aimed at in a signature: where the object stands, the walk from there finds it.
-    method-placed : {at : ℕ} (x : Atom) (rest : List ℕ) (f : ℕ → ℕ) (g : Arrow → Term → Term → Terms → Term → Aim) → f (length p + 1) ≡ length p + 1 →
-        ((a : Arrow) (o m : Term) (ts : Terms) (r : Term) (at : ℕ) → Fits depth w (method a o m ts (value r)) → Stands p at (putTerm o (word " " (fromMethod p m ts (value r) (word ")" rest)))) →
-        Placed depth p (f at) w (plus (method a o m ts (value r))) rest (g a o m ts r)) →
+    method-placed : {at : ℕ} (x : Atom) (rest : List ℕ) (f : ℕ → ℕ) (g : Arrow → Term → Term → Terms → Result → Aim) → f (length p + 1) ≡ length p + 1 →
+        ((a : Arrow) (o m : Term) (ts : Terms) (r : Result) (at : ℕ) → Fits depth w (method a o m ts r) → Stands p at (putTerm o (word " " (fromMethod p m ts r (word ")" rest)))) →
+        Placed depth p (f at) w (plus (method a o m ts r)) rest (g a o m ts r)) →
         Fits depth w x → Stands p at (putAtom x (word ")" rest)) → Placed depth p (f (signatureFrom p at)) w (plus x) rest (methodAim x g)
-    unfolding methodAim resultAim kindNumber afterHead
+    unfolding methodAim kindNumber afterHead
     method-placed (link l t u) rest f g e h i s =
         missed (ap f (other-signature p (link l t u) (word ")" rest) (λ w. link-arrow l St (sym w)) (λ w. link-arrow l Mt (sym w)) s) ∙ e)
     method-placed (obj t) rest f g e h i s = missed (ap f (other-signature p (obj t) (word ")" rest) (λ w. omega arith) (λ w. omega arith) s) ∙ e)
-    method-placed {at} (method a o m ts r) rest f g e h i s = go (signature a) refl r i s
+    method-placed {at} (method a o m ts r) rest f g e h i s = go (signature a) refl
       where
-        go : (b : Bool) → signature a ≡ b → (r : Result) → Fits depth w (method a o m ts r) → Stands p at (putAtom (method a o m ts r) (word ")" rest)) →
-            Placed depth p (f (signatureFrom p at)) w (plus (method a o m ts r)) rest (cond b (resultAim r (g a o m ts)) misses)
-        go true d (value r) i s =
-            let v = either-stands p 8 9 (method a o m ts (value r)) (word ")" rest) (omega arith) (signature-kind a (rw d tt)) s in
-            rw (object-of p o m ts r (word ")" rest) v) (h a o m ts r _ i v)
-        go true d none i s = missed (ap f (object-none p o m ts (word ")" rest) (either-stands p 8 9 (method a o m ts none) (word ")" rest) (omega arith) (signature-kind a (rw d tt)) s)) ∙ e)
-        go false d r i s = missed (ap f (other-signature p (method a o m ts r) (word ")" rest) (kind-signature a d .0) (kind-signature a d .1) s) ∙ e)
+        go : (b : Bool) → signature a ≡ b → Placed depth p (f (signatureFrom p at)) w (plus (method a o m ts r)) rest (cond b (g a o m ts r) misses)
+        go true d = h a o m ts r _ i (either-stands p 8 9 (method a o m ts r) (word ")" rest) (omega arith) (signature-kind a (rw d tt)) s)
+        go false d = missed (ap f (other-signature p (method a o m ts r) (word ")" rest) (kind-signature a d .0) (kind-signature a d .1) s) ∙ e)
 
     -- The three places that are aimed at in a signature.
     pub inh-placed : Aimed Inh
@@ -308,24 +303,30 @@ module _ (depth : ℕ) where
     inh-placed at k l rest =
         positive-placed l rest (signatureFrom p) _ (past-signature p) (λ x at i s. method-placed x rest (λ o. o) objectAim refl (λ a o m ts r at i v. found _ _ v (object-hole depth w rest a o m ts r i)) i s)
 
-    pub out-placed : Aimed Out
-    unfolding partAt objectAt aim outputAim putResult
-    out-placed at k l rest =
-        positive-placed l rest (λ at. resultAt p (signatureFrom p at)) _ (ap (resultAt p) (past-signature p) ∙ past-result p) (λ x at i s.
-        method-placed x rest (resultAt p) outputAim (past-result p) (λ a o m ts r at i v. found _ _ (result-stands p o m ts (value r) (word ")" rest) v) (result-hole depth w rest a o m ts r i)) i s)
+    output-placed : {at : ℕ} (a : Arrow) (o m : Term) (ts : Terms) (r : Result) (rest : List ℕ) → Fits depth w (method a o m ts r) →
+        Stands p at (putTerm o (word " " (fromMethod p m ts r (word ")" rest)))) → Placed depth p (valueAt p at) w (plus (method a o m ts r)) rest (outputAim a o m ts r)
+    unfolding outputAim resultAim putResult
+    output-placed a o m ts (value r) rest i s = rw (value-of p o m ts r (word ")" rest) s) (found _ _ (result-stands p o m ts (value r) (word ")" rest) s) (result-hole depth w rest a o m ts r i))
+    output-placed a o m ts none rest i s = missed (value-none p o m ts (word ")" rest) s)
 
-    argument-placed : {at : ℕ} (k : ℕ) (a : Arrow) (o m : Term) (ts : Terms) (r : Term) (rest : List ℕ) → Fits depth w (method a o m ts (value r)) →
-        Stands p at (putArguments ts (word " " (putResult (value r) (word ")" (word ")" rest))))) → Placed depth p (argumentAt p at k) w (plus (method a o m ts (value r))) rest (inputAim k a o m ts r)
+    pub out-placed : Aimed Out
+    unfolding partAt objectAt aim
+    out-placed at k l rest =
+        positive-placed l rest (λ at. valueAt p (signatureFrom p at)) _ (ap (valueAt p) (past-signature p) ∙ past-value p) (λ x at i s.
+        method-placed x rest (valueAt p) outputAim (past-value p) (λ a o m ts r at i v. output-placed a o m ts r rest i v) i s)
+
+    argument-placed : {at : ℕ} (k : ℕ) (a : Arrow) (o m : Term) (ts : Terms) (r : Result) (rest : List ℕ) → Fits depth w (method a o m ts r) →
+        Stands p at (putArguments ts (word " " (putResult r (word ")" (word ")" rest))))) → Placed depth p (argumentAt p at k) w (plus (method a o m ts r)) rest (inputAim k a o m ts r)
     unfolding argumentAt inputAim
     argument-placed {at} k a o m ts r rest i s = go (argument-item ts k _) (argument-written k ts _ _)
       where
         behind : List ℕ
-        behind = word " " (putResult (value r) (word ")" (word ")" rest)))
+        behind = word " " (putResult r (word ")" (word ")" rest)))
 
         aimed : Argument → Aim
-        aimed g = hits (record { term = g .term; with = λ σ u. plus (method a (fill σ o) (fill σ m) (g .with σ u) (value (fill σ r))) })
+        aimed g = hits (record { term = g .term; with = λ σ u. plus (method a (fill σ o) (fill σ m) (g .with σ u) (fillResult σ r)) })
 
-        go : {q : Parsed (Unit {0})} {b : Aim} → toArgument k (putArguments ts behind) ≡ q → Written k ts (word ")" behind) aimed q b → Placed depth p (endOf p (toArgument k (drop at p))) w (plus (method a o m ts (value r))) rest b
+        go : {q : Parsed (Unit {0})} {b : Aim} → toArgument k (putArguments ts behind) ≡ q → Written k ts (word ")" behind) aimed q b → Placed depth p (endOf p (toArgument k (drop at p))) w (plus (method a o m ts r)) rest b
         go e absent = missed (walk-past p at (toArgument k) s e)
         go e (present c) = found _ _ (walk-stands p at (argument-tail k) s e) (argument-hole depth w rest a o m ts r i c)
 

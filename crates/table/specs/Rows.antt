@@ -15,7 +15,7 @@ use Rattle.text.specs.Words.{bytes}
 use Rattle.text.specs.Heads.{head, linkKind}
 use Rattle.text.specs.Places.{endOf}
 use Rattle.text.specs.Access.{toOccurrence}
-use Rattle.parts.specs.Shapes.{stripAt, nextAt, argumentAt, positiveAt, negativeAt, firstAt, resultAt, objectAt}
+use Rattle.parts.specs.Shapes.{stripAt, nextAt, argumentAt, positiveAt, negativeAt, firstAt, valueAt, objectAt}
 use Rattle.filling.specs.Agree.{agreeAt, callsAt}
 use Rattle.parts.specs.Shapes.{within}
 use Rattle.filling.specs.Covers.{coversAt}
@@ -48,7 +48,7 @@ rowOf Sca = row Scalarity Nothing Sub true
 rowOf Eli = row Elimination Nothing Sub true
 
 -- The term that a rewriting rule replaces. R11, R20: "term occurrence K", "counted from 0 in the literal at I as it is before filling".
--- R13, R14: the second term of + sub or + mem. R15 to R17: "+ st or mt with object P and a term result", "argument K", "a term result R".
+-- R13, R14: the second term of + sub or + mem. R15 to R17: "+ st or mt with object P", "an argument K", "a term result R".
 unfoldable pub partAt : Target → ℕ → List ℕ → ℕ → ℕ
 partAt Nothing k p at = length p + 1
 partAt Occurrence k p at = endOf p (toOccurrence k (drop at p))
@@ -56,7 +56,7 @@ partAt Subclass k p at = nextAt p (firstAt p (head (linkKind Sub)) at)
 partAt Member k p at = nextAt p (firstAt p (head (linkKind Mem)) at)
 partAt Object k p at = objectAt p (bytes "(st ") (bytes "(mt ") at
 partAt Argument k p at = argumentAt p (nextAt p (nextAt p (objectAt p (bytes "(st ") (bytes "(mt ") at))) k
-partAt Result k p at = resultAt p (objectAt p (bytes "(st ") (bytes "(mt ") at)
+partAt Result k p at = valueAt p (objectAt p (bytes "(st ") (bytes "(mt ") at)
 
 abbrev pub targetAt : List ℕ → Rule → ℕ → ℕ → ℕ
 targetAt p rule k at = partAt (rowOf rule .target) k p at
@@ -125,13 +125,13 @@ called p i q j =
     let y = objectAt q (bytes "(sv ") (bytes "(si ") j in
     record {
       kind = Scalarity;
-      shaped = within p x && within q y;
+      shaped = within p (valueAt p x) && within q (valueAt q y);
       arrows = sameArrowAt p i q j;
       literal = i;
       left = x;
-      more = resultAt p x;
+      more = valueAt p x;
       right = y;
-      other = resultAt q y;
+      other = valueAt q y;
     }
 
 -- The shape (V19): "a position, sign, kind of atom, result, K, or pair I, J".

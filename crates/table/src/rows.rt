@@ -14,11 +14,11 @@ use parts::shapes::link;
 use parts::shapes::negative;
 use parts::shapes::next;
 use parts::shapes::positive;
-use parts::shapes::result;
 use parts::shapes::same_arrow;
 use parts::shapes::same_sign;
 use parts::shapes::scalar;
 use parts::shapes::signature;
+use parts::shapes::value;
 use parts::shapes::within;
 ghost use mathlib.Core.Path.{_≡_};
 ghost use mathlib.Core.Bool.{cond};
@@ -36,7 +36,7 @@ pub enum Kind {
 }
 
 // The term of the literal at I that a rewriting rule replaces: occurrence K, the second term of sub or mem, or the object, argument K or
-// the result of a signature.
+// the term result of a signature.
 pub enum Target {
     Nothing,
     Occurrence,
@@ -168,7 +168,7 @@ fn part(target: Target, k: usize, clause: &[u8], at: usize) -> usize
         Target::Member => next(clause, link(clause, Link::Mem, at)),
         Target::Object => signature(clause, at),
         Target::Argument => argument(clause, signature(clause, at), k),
-        Target::Result => result(clause, signature(clause, at)),
+        Target::Result => value(clause, signature(clause, at)),
     }
 }
 
@@ -257,11 +257,11 @@ fn scalarity(a: &[u8], x: usize, b: &[u8], y: usize) -> Found
 {
     let left = scalar(a, x);
     let right = scalar(b, y);
-    let more = result(a, left);
-    let other = result(b, right);
+    let more = value(a, left);
+    let other = value(b, right);
     Found {
         kind: Kind::Scalarity,
-        shaped: both(within(a, left), within(b, right)),
+        shaped: both(within(a, more), within(b, other)),
         arrows: same_arrow(a, x, b, y),
         literal: x,
         left,

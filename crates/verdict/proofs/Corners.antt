@@ -25,7 +25,7 @@ use Rattle.reader.specs.Failure.{lineFailure}
 use Rattle.verdict.specs.Answer.{stepFailure, failure, isNil, firstEmpty, acceptedAs, finish, readOn, verdict, restsIn, rests}
 use Rattle.verdict.specs.Checks.{readings, tooLarge, stateOf, tableOf, inputsOf}
 use Rattle.verdict.specs.Corners.{textOf, chain, corners, AllMeant}
-use Rattle.verdict.proofs.Examples.{refutedText, openText, refusedText, modelled}
+use Rattle.verdict.proofs.Examples.{refutedText, openText, refusedText, modelled, bareText, bareOutText}
 use Rattle.verdict.proofs.Guaranteed.{answer-exactly}
 
 abbrev Row : Type 0
@@ -44,9 +44,12 @@ pub record Computed : Type 0 where
   pub refused-text : verdict office refusedText ≡ Refused 8 3
   pub refused-table : tableOf office refusedText ≡ 0 ∷ []
   pub refused-inputs : inputsOf office refusedText ≡ modelled
+  pub bare-text : verdict office bareText ≡ Refuted 6 5
+  pub bare-rests : rests office bareText ≡ 0 ∷ 1 ∷ 2 ∷ []
+  pub bare-out-text : verdict office bareOutText ≡ Refused 9 5
 
 pub computed : Computed
-unfolding eachTerm eachTerms eachAtom eachClause declares termWidth termsWidth width signNumber nthSign linkNumber nthLink arrowNumber nthArrow sign? link? arrow? terms? atom? call? literal? consSame clause? byNumber ℕ-discrete entries fill fills fillResult fillAtom fillLiteral fillClause parentClause parentA parentB below parentsBelow zeroIfUnused unusedZero firstLength listsFit numbersRight onAt onPlus onMinus onLink onObj onResult onMethod onPlaced onFound onSub conclude-res conclude-acy conclude-link onSignature conclude-inh conclude-inp conclude-out onScalar conclude-sca before tableRow conclude-eli conclude-two conclude-fac conclude-par conclude conclusion covers? holds? judgeConclusion judge judgedNumber mapSearch inTurn findTerm findTerms findAtom findLiteral uses bareResult bare signature scalar filled mayBeNone join count entryOr resultTerms termsOf front rest nth withResult withTerms strip oneOf digit goesOn readDigits readNumber readNext readItems readMany readVariable readApplied readTerm readArguments readResult readLink readObject readMethod readKind readAtom readSign readLiteral readClause readLet readRule readSym readInput readStep readForm whole readLine push split readRaw fresh clauses advance isEmpty ordered hasConstant constantReady argumentsFit argumentsFitAll clauseFits listFits withinLimits symbolsDeclared lineFailure after stepFailure failure isNil firstEmpty acceptedAs finish readOn verdict usedParents numbersBelow among reached restsOn restsIn rests readings tooLarge textOf chain corners stateAfter stateOf tableOf inputsOf refutedText openText refusedText
+unfolding eachTerm eachTerms eachAtom eachClause declares termWidth termsWidth width signNumber nthSign linkNumber nthLink arrowNumber nthArrow sign? link? arrow? terms? atom? call? literal? consSame clause? byNumber ℕ-discrete entries fill fills fillResult fillAtom fillLiteral fillClause parentClause parentA parentB below parentsBelow zeroIfUnused unusedZero firstLength listsFit numbersRight onAt onPlus onMinus onLink onObj onResult onMethod onPlaced onFound onSub conclude-res conclude-acy conclude-link onSignature conclude-inh conclude-inp conclude-out onScalar conclude-sca before tableRow conclude-eli conclude-two conclude-fac conclude-par conclude conclusion covers? holds? judgeConclusion judge judgedNumber mapSearch inTurn findTerm findTerms findAtom findLiteral uses bareResult bare signature scalar filled mayBeNone join count entryOr resultTerms termsOf front rest nth withResult withTerms strip oneOf digit goesOn readDigits readNumber readNext readItems readMany readVariable readApplied readTerm readArguments readResult readLink readObject readMethod readKind readAtom readSign readLiteral readClause readLet readRule readSym readInput readStep readForm whole readLine push split readRaw fresh clauses advance isEmpty ordered hasConstant constantReady argumentsFit argumentsFitAll clauseFits listFits withinLimits symbolsDeclared lineFailure after stepFailure failure isNil firstEmpty acceptedAs finish readOn verdict usedParents numbersBelow among reached restsOn restsIn rests readings tooLarge textOf chain corners stateAfter stateOf tableOf inputsOf refutedText openText refusedText bareText bareOutText
 computed = record {
   answers = refl;
   refuted-text = refl;
@@ -56,6 +59,9 @@ computed = record {
   refused-text = refl;
   refused-table = refl;
   refused-inputs = refl;
+  bare-text = refl;
+  bare-rests = refl;
+  bare-out-text = refl;
 }
 
 -- C1 to C10.

@@ -4,6 +4,7 @@ pub mod Corners
 pub mod Entailed
 pub mod Accepts
 pub mod Guaranteed
+pub mod Staying
 pub mod Worked
 pub mod Ends
 pub mod Judging

@@ -17,7 +17,7 @@ use Rattle.text.specs.Figures.{office}
 use Rattle.verdict.specs.declared.Verdict.the-variants.{Refuted}
 use Rattle.verdict.specs.Checks.{tableOf, inputsOf}
 use Rattle.verdict.specs.Answer.{verdict, rests}
-use Rattle.verdict.proofs.Examples.{refutedText, openText, refusedText, modelled}
+use Rattle.verdict.proofs.Examples.{refutedText, openText, refusedText, modelled, bareText}
 use Rattle.verdict.proofs.Corners.{computed}
 use Rattle.verdict.proofs.Guaranteed.{answer-exactly, whole-claim}
 
@@ -28,6 +28,10 @@ modelled-not-refuted F text H S m count first e = whole-claim F text (verdict F 
 -- refuted: no structure satisfies the inputs.
 pub refuted-example : (H : Atom → Type 0) → Structure (tableOf office refutedText) H → ModelsAll (tableOf office refutedText) H (inputsOf office refutedText) → ⊥
 refuted-example H S m = modelled-not-refuted office refutedText H S m 3 2 (computed .refuted-text)
+
+-- The same by a signature with none, which a structure passes to subclasses (H6).
+pub bare-example : (H : Atom → Type 0) → Structure (tableOf office bareText) H → ModelsAll (tableOf office bareText) H (inputsOf office bareText) → ⊥
+bare-example H S m = modelled-not-refuted office bareText H S m 6 5 (computed .bare-text)
 
 -- The set of all ground atoms satisfies the inputs of the open and of the refused text.
 abbrev Ground : List ℕ → Atom → Type 0

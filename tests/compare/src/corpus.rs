@@ -361,8 +361,9 @@ impl Corpus {
 
     /// What is missing: each verdict, refutations that don't need all their
     /// inputs, each number, each limit with its kinds of verdicts, each rule
-    /// accepted, and each rule refused by each number from 7 to 11 that it can
-    /// fail. A text that doesn't get the answer that it is made for is told as
+    /// accepted, each rule refused by each number from 7 to 11 that it can
+    /// fail, and signatures with none, accepted by inh and inp and refused by
+    /// out. A text that doesn't get the answer that it is made for is told as
     /// well.
     pub fn missing(&self) -> Vec<String> {
         let mut missing = self.wrong.clone();
@@ -392,6 +393,12 @@ impl Corpus {
                 );
             }
         }
+        for rule in ["inh", "inp"] {
+            let accepted = coverage.bare(rule, None);
+            want(accepted, 30, format!("{rule} by none accepted"));
+        }
+        let refused = coverage.bare("out", Some(9));
+        want(refused, 10, "out by none refused 9".into());
         missing.extend(self.missing_limits());
         missing
     }

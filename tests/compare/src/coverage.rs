@@ -1,11 +1,14 @@
 //! What a set of texts covers: the verdicts, and for each rule how many steps
-//! were accepted and how many texts each number refused at such a step.
+//! were accepted and how many texts each number refused at such a step; the
+//! same for steps on a signature with none.
 
-use std::collections::BTreeMap;
+use std::collections::{BTreeMap, BTreeSet};
 use std::fmt;
 
 use second::generate::model::RULES;
 use second::{check, Verdict};
+
+use crate::made::literals;
 
 /// The numbers of the checks that a line can fail.
 const CHECKS: std::ops::RangeInclusive<u8> = 2..=11;
@@ -37,7 +40,7 @@ pub fn classify(text: &[u8]) -> Class {
 }
 
 /// The class of a text whose verdict is known.
-pub fn class_of(text: &[u8], verdict: Verdict) -> Class {
+fn class_of(text: &[u8], verdict: Verdict) -> Class {
     match verdict {
         Verdict::Open { .. } => Class::Open,
         Verdict::Refuted { .. } => Class::Refuted,
@@ -68,21 +71,64 @@ pub fn rules_of(text: &[u8]) -> Vec<&'static str> {
         .collect()
 }
 
+/// The steps of a text that have a positive signature with none at I: the
+/// number of the line, and the rule.
+fn bare_steps(text: &str) -> Vec<(usize, &'static str)> {
+    let mut clauses: Vec<Vec<String>> = Vec::new();
+    let mut steps = Vec::new();
+    for (number, line) in (1..).zip(text.lines()) {
+        let Some((start, clause)) = line.split_once("(or") else {
+            continue;
+        };
+        let words: Vec<&str> = start.split(' ').collect();
+        if let ["(by", rule, a, i, ..] = words[..] {
+            let rule = RULES.into_iter().find(|known| *known == rule);
+            let [a, i] = [a, i].map(|word| word.parse().unwrap_or(usize::MAX));
+            let literal = clauses.get(a).and_then(|clause| clause.get(i));
+            let bare = literal.is_some_and(|literal| is_bare(literal));
+            steps.extend(rule.filter(|_| bare).map(|rule| (number, rule)));
+        }
+        clauses.push(literals(clause));
+    }
+    steps
+}
+
+/// Whether a literal is a positive signature with none.
+fn is_bare(literal: &str) -> bool {
+    let signature = ["(+ (st ", "(+ (mt "].map(|start| literal.starts_with(start));
+    signature.contains(&true) && literal.contains(" none)")
+}
+
 /// Counts over a set of texts.
 #[derive(Clone, Debug, Default)]
 pub struct Coverage {
     classes: BTreeMap<Class, u64>,
     /// The texts that are accepted and have a step by the rule.
     accepted: BTreeMap<&'static str, u64>,
+    /// The texts with a step by the rule on a signature with none that are
+    /// accepted, or refused there by the number.
+    bare: BTreeMap<(&'static str, Option<u8>), u64>,
 }
 
 impl Coverage {
     pub fn add(&mut self, text: &[u8]) {
-        self.add_as(text, classify(text));
+        self.add_as(text, check(text).verdict);
     }
 
-    /// Adds a text whose class is known.
-    pub fn add_as(&mut self, text: &[u8], class: Class) {
+    /// Adds a text whose verdict is known.
+    pub fn add_as(&mut self, text: &[u8], verdict: Verdict) {
+        let refused = match verdict {
+            Verdict::Refused { number, line } => Some((number, line)),
+            _ => None,
+        };
+        let bare = bare_steps(&String::from_utf8_lossy(text)).into_iter();
+        let bare = bare.filter(|&(step, _)| refused.is_none_or(|(_, line)| line == step));
+        let rules: BTreeSet<&str> = bare.map(|(_, rule)| rule).collect();
+        for rule in rules {
+            let key = (rule, refused.map(|(number, _)| number));
+            *self.bare.entry(key).or_default() += 1;
+        }
+        let class = class_of(text, verdict);
         if matches!(class, Class::Open | Class::Refuted) {
             let mut rules = rules_of(text);
             rules.sort_unstable();
@@ -115,6 +161,12 @@ impl Coverage {
     /// The accepted texts with a step by a rule.
     pub fn accepted_with(&self, rule: &str) -> u64 {
         self.accepted.get(rule).copied().unwrap_or(0)
+    }
+
+    /// The texts with a step by a rule on a signature with none that are
+    /// accepted, or refused there by the number.
+    pub fn bare(&self, rule: &'static str, refused: Option<u8>) -> u64 {
+        self.bare.get(&(rule, refused)).copied().unwrap_or(0)
     }
 
     /// The verdicts on one line.
@@ -158,6 +210,12 @@ impl fmt::Display for Coverage {
             }
             writeln!(f)?;
         }
+        let [inh, inp] = ["inh", "inp"].map(|rule| self.bare(rule, None));
+        let out = self.bare("out", Some(9));
+        writeln!(
+            f,
+            "by none: inh accepted {inh}, inp accepted {inp}, out refused by 9 {out}"
+        )?;
         let at_end = self.refused_at("", 4);
         writeln!(f, "with line 0: by 1 {}, by 4 {at_end}", self.refused(1))
     }

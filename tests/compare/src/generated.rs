@@ -6,10 +6,10 @@ use std::sync::{Arc, Mutex};
 use std::thread;
 use std::time::{Duration, Instant};
 
-use second::check;
 use second::generate::Sample;
+use second::{check, Verdict};
 
-use crate::coverage::{class_of, Class, Coverage};
+use crate::coverage::Coverage;
 use crate::printed;
 
 /// How often the workers are looked at.
@@ -54,7 +54,7 @@ pub struct Outcome {
 /// What came of one text.
 struct Result {
     text: Vec<u8>,
-    class: Class,
+    verdict: Verdict,
     difference: Option<Difference>,
 }
 
@@ -130,8 +130,8 @@ fn one(
     let program = program(&text);
     let same = program == second && expected.as_ref().is_none_or(|answer| *answer == second);
     Result {
-        class: class_of(&text, answer.verdict),
         text,
+        verdict: answer.verdict,
         difference: (!same).then_some(Difference {
             seed,
             program,
@@ -151,7 +151,7 @@ fn late(work: &Work, limit: Duration) -> Option<u64> {
 impl Outcome {
     fn add(&mut self, result: Result) {
         self.texts += 1;
-        self.coverage.add_as(&result.text, result.class);
+        self.coverage.add_as(&result.text, result.verdict);
         self.differences.extend(result.difference);
     }
 }

@@ -5,6 +5,7 @@
 //! any: A, B, C are the constants 0, 1, 2, and X, Y the variables 0, 1. Symbol
 //! 3 takes one term, symbol 4 takes two.
 
+mod bare;
 mod lines;
 mod literals;
 mod rests;
@@ -32,6 +33,7 @@ pub fn made() -> Vec<Made> {
         steps::texts(),
         literals::texts(),
         terms::texts(),
+        bare::texts(),
     ]
     .concat()
 }
@@ -61,6 +63,20 @@ fn after_symbols(lines: &[String]) -> Vec<u8> {
     text(&[&symbols, lines].concat())
 }
 
+/// Input clauses and a step, made to be refused there by a number or to be
+/// accepted.
+fn step(inputs: &[String], step: String, refused: Option<u8>, accepted: &str) -> Made {
+    let inputs = inputs.iter().map(|clause| format!("(in {clause})"));
+    let lines: Vec<String> = inputs.chain([step]).collect();
+    Made {
+        text: after_symbols(&lines),
+        expected: match refused {
+            Some(number) => format!("refused {number} {}", SYMBOLS.len() + lines.len()),
+            None => accepted.into(),
+        },
+    }
+}
+
 /// Items between brackets behind a word: `(WORD ITEM ...)`.
 fn row(word: &str, items: &[String]) -> String {
     let items: String = items.iter().map(|item| format!(" {item}")).collect();
@@ -68,7 +84,7 @@ fn row(word: &str, items: &[String]) -> String {
 }
 
 /// The literals of a clause, given one after another.
-fn literals(clause: &str) -> Vec<String> {
+pub(crate) fn literals(clause: &str) -> Vec<String> {
     let marked = clause.replace(" (+ ", "|(+ ").replace(" (- ", "|(- ");
     let literals = marked.split('|').filter(|literal| !literal.is_empty());
     literals.map(str::to_string).collect()

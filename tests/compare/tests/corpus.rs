@@ -4,6 +4,7 @@ use std::fs;
 use std::path::Path;
 
 use compare::corpus::{read_file, Corpus, LONGEST};
+use compare::coverage::Coverage;
 use compare::made::{made, refutations};
 
 #[test]
@@ -13,7 +14,7 @@ fn the_stored_corpus_is_complete_and_the_one_that_is_made() {
     assert_eq!(corpus.missing(), Vec::<String>::new());
     assert!(corpus.texts().iter().all(|text| text.len() <= LONGEST));
     let file = corpus.file();
-    assert!(file.len() < 2_500_000);
+    assert!(file.len() < 2_600_000);
     assert_eq!(read_file(&file).as_deref(), Some(corpus.texts()));
     let stored = root.join("crates/corpus");
     assert!(fs::read(stored.join("data/corpus.bin")).unwrap() == file);
@@ -29,5 +30,24 @@ fn texts_get_the_answer_that_they_are_made_for() {
             made.expected,
             "{text}"
         );
+    }
+}
+
+#[test]
+fn steps_on_signatures_with_none_are_counted() {
+    let examples = Path::new(env!("CARGO_MANIFEST_DIR")).join("../../examples");
+    let mut coverage = Coverage::default();
+    let mut counts = |name: &str| {
+        coverage.add(&fs::read(examples.join(name)).unwrap());
+        let [inh, inp] = ["inh", "inp"].map(|rule| coverage.bare(rule, None));
+        [inh, inp, coverage.bare("out", Some(9))]
+    };
+    assert_eq!(counts("rule-inh-none.flogic"), [1, 0, 0]);
+    assert_eq!(counts("rule-inp-none.flogic"), [1, 1, 0]);
+    assert_eq!(counts("refused-09-out.flogic"), [1, 1, 1]);
+    assert_eq!(counts("survey-bare.flogic"), [2, 2, 1]);
+    // These have a term, or no step by these rules.
+    for name in ["rule-inh", "rule-inp", "rule-out", "refused-09", "c08"] {
+        assert_eq!(counts(&format!("{name}.flogic")), [2, 2, 1]);
     }
 }

@@ -144,16 +144,17 @@ fn conclude<'a>(
         Rule::Transitivity => Some(chain(Head::Subclass, a.premise(i)?, b.premise(j)?)?),
         // inc: "+ mem(P,Q), + sub(Q',R)", "Q=Q'", new "+ mem(P,R)".
         Rule::Inclusion => Some(chain(Head::Membership, a.premise(i)?, b.premise(j)?)?),
-        // inh: "+ st or mt with object P and a term result, + sub(S,P')",
-        // "P=P'", new "first, object S".
+        // inh: "+ st or mt with object P and a term result or none, + sub(S,P')",
+        // "P=P'", new "first, object S". "inh and inp take none as a result and
+        // keep it."
         Rule::SignatureInheritance => {
             let first = a.premise(i)?;
             first.signature_arguments()?;
             let [lower, upper] = b.premise(j)?.positive_pair(Head::Subclass)?;
             Some(first.replace(first.place(OBJECT)?, upper, lower)?)
         }
-        // inp: "+ st or mt with a term result, argument K, + sub(S,Q)",
-        // "argument K = Q", new "first, argument K is S".
+        // inp: "+ st or mt with a term result or none and an argument K, +
+        // sub(S,Q)", "argument K = Q", new "first, argument K is S".
         Rule::InputRestriction => {
             let first = a.premise(i)?;
             let arguments = first.signature_arguments()?;
@@ -162,7 +163,8 @@ fn conclude<'a>(
             Some(first.replace(first.place(ARGUMENTS + k)?, upper, lower)?)
         }
         // out: "+ st or mt with a term result R, + sub(R',S)", "R=R'", new
-        // "first, result S".
+        // "first, result S". "out still needs a term": with none there is no
+        // place for one.
         Rule::OutputRelaxation => {
             let first = a.premise(i)?;
             let arguments = first.signature_arguments()?;
@@ -308,14 +310,12 @@ impl<'a> Premise<'a> {
         Ok([self.part(self.place(0)?), self.part(self.place(1)?)])
     }
 
-    /// The number of arguments of a literal that must be "+ st or mt with a
-    /// term result".
+    /// The number of arguments of a literal that must be "+ st or mt", with
+    /// any result.
     fn signature_arguments(self) -> Result<usize, Check> {
         match self.literal.head {
             Head::Method {
-                arrow,
-                arguments,
-                has_result: true,
+                arrow, arguments, ..
             } if self.literal.positive && arrow.is_signature() => Ok(arguments.into()),
             _ => Err(Check::Shape),
         }

@@ -78,6 +78,31 @@ fn valid_texts_get_their_answer() {
     }
 }
 
+/// Whether the new literal of a by line, the first of its claim, has none.
+fn gives_none(line: &str) -> bool {
+    let claim = line.rsplit("(or ").next().unwrap_or("");
+    let next = claim.find(" (+ ").into_iter().chain(claim.find(" (- "));
+    let new = &claim[..next.min().unwrap_or(claim.len())];
+    new.contains(" none)")
+}
+
+#[test]
+fn signatures_with_none_are_passed_often() {
+    for rule in ["inh", "inp"] {
+        let mut counts = [0, 0];
+        for seed in 0..3_000 {
+            let text = String::from_utf8(valid_sample(seed).text).unwrap();
+            let steps = text.lines().filter(|line| line.starts_with("(by "));
+            for line in steps.filter(|line| line[4..].starts_with(rule)) {
+                counts[usize::from(gives_none(line))] += 1;
+            }
+        }
+        let [with_term, with_none] = counts;
+        assert!(with_none * 4 > with_term, "{rule}: {counts:?}");
+        assert!(with_none < with_term, "{rule}: {counts:?}");
+    }
+}
+
 /// How many clauses of a refuted text are reached from its first empty clause
 /// by no step, by one and by more, of the inputs and of the steps.
 fn uses(text: &[u8]) -> [[usize; 3]; 2] {

@@ -73,18 +73,18 @@ fn wrong_literal_dropped_in_negative_fac() {
 
 #[test]
 fn inp_with_the_sub_link_turned_round() {
-    let inputs = [
-        "(in (or (+ (st A A (B) A))))",
-        "(in (or (+ (sub C B))))",
-        "(in (or (+ (sub B C))))",
-    ];
-    cases(
-        &inputs,
-        &[
-            (0, "(by inp 0 0 1 0 0 (let) (let) (or (+ (st A A (C) A))))"),
-            (10, "(by inp 0 0 2 0 0 (let) (let) (or (+ (st A A (C) A))))"),
-        ],
-    );
+    for result in ["A", "none"] {
+        let step =
+            |b: usize| format!("(by inp 0 0 {b} 0 0 (let) (let) (or (+ (st A A (C) {result}))))");
+        cases(
+            &[
+                &format!("(in (or (+ (st A A (B) {result}))))"),
+                "(in (or (+ (sub C B))))",
+                "(in (or (+ (sub B C))))",
+            ],
+            &[(0, &step(1)), (10, &step(2))],
+        );
+    }
 }
 
 #[test]

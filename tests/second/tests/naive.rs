@@ -235,7 +235,7 @@ fn conclude(
     let (y, other_word) = (second.item(1), second.item(1).item(0).text);
     let other_plus = second.item(0).text == "+";
 
-    let is_signature = plus && matches!(word, "st" | "mt") && x.item(4).text != "none";
+    let is_signature = plus && matches!(word, "st" | "mt");
     let is_scalar = |plus, word| plus && matches!(word, "sv" | "si");
     let arguments = if is_signature {
         x.item(3).texts(0)
@@ -249,8 +249,9 @@ fn conclude(
         "par" => occurrence.is_some() && other_plus && other_word == "eq",
         "acy" | "tra" => plus && word == "sub" && other_plus && other_word == "sub",
         "inc" => plus && word == "mem" && other_plus && other_word == "sub",
-        "inh" | "out" => is_signature && other_plus && other_word == "sub",
+        "inh" => is_signature && other_plus && other_word == "sub",
         "inp" => is_signature && k < arguments.len() && other_plus && other_word == "sub",
+        "out" => is_signature && x.item(4).text != "none" && other_plus && other_word == "sub",
         _ => is_scalar(plus, word) && is_scalar(other_plus, other_word),
     };
     if !shape {

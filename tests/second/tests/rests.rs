@@ -45,7 +45,7 @@ fn an_empty_input_rests_on_itself_alone() {
 
 /// For each rule inputs from 1 on and steps that end in the empty clause. Clause
 /// 0 is an input that no step uses, and the unused numbers of a step name it.
-const RULES: [(&str, &[&str], &str); 12] = [
+const RULES: [(&str, &[&str], &str); 14] = [
     (
         "refl",
         &[
@@ -136,6 +136,28 @@ const RULES: [(&str, &[&str], &str); 12] = [
             "(in (or (+ (mt C C (A) C))))",
             "(in (or (+ (sub B A))))",
             "(by inp 2 0 3 0 0 (let) (let) (or (+ (mt C C (B) C))))",
+            "(by res 1 0 4 0 0 (let) (let) (or))",
+        ],
+        "rests 1 2 3",
+    ),
+    (
+        "inh by none",
+        &[
+            "(in (or (- (mt B C (A) none))))",
+            "(in (or (+ (mt A C (A) none))))",
+            "(in (or (+ (sub B A))))",
+            "(by inh 2 0 3 0 0 (let) (let) (or (+ (mt B C (A) none))))",
+            "(by res 1 0 4 0 0 (let) (let) (or))",
+        ],
+        "rests 1 2 3",
+    ),
+    (
+        "inp by none",
+        &[
+            "(in (or (- (st C C (C B) none))))",
+            "(in (or (+ (st C C (C A) none))))",
+            "(in (or (+ (sub B A))))",
+            "(by inp 2 0 3 0 1 (let) (let) (or (+ (st C C (C B) none))))",
             "(by res 1 0 4 0 0 (let) (let) (or))",
         ],
         "rests 1 2 3",

@@ -487,7 +487,7 @@ fn signature_rule(rule: &str, k: usize, good: &str, turned: &str, new: &str) {
         let inputs = [
             &format!("(in (or (- (obj X)) (+ ({arrow} X B (X C) X))))"),
             &format!("(in (or (+ {good}) (+ {turned}) (- {good}) (+ (eq A B))))"),
-            &format!("(in (or (+ ({arrow} A B (A C) none)) (- ({arrow} A B (A C) A))))"),
+            &format!("(in (or (- ({arrow} A B (A C) A)) (- ({arrow} A B (A C) none))))"),
             "(in (or (+ (mv A B (A C) A)) (+ (sv A B (A C) A)) (+ (obj A))))",
         ];
         let new = new.replace("ARROW", arrow);
@@ -509,7 +509,7 @@ fn signature_rule(rule: &str, k: usize, good: &str, turned: &str, new: &str) {
                 (9, &step(&format!("0 1 1 2 {k} (let A) (let)"))),
                 (9, &step(&format!("0 1 1 3 {k} (let A) (let)"))),
                 (9, &step(&format!("0 1 1 4 {k} (let A) (let)"))),
-                // none for a result, a negative literal, other arrows.
+                // Negative literals, other arrows.
                 (9, &step(&format!("2 0 1 0 {k} (let) (let)"))),
                 (9, &step(&format!("2 1 1 0 {k} (let) (let)"))),
                 (9, &step(&format!("3 0 1 0 {k} (let) (let)"))),
@@ -593,6 +593,129 @@ fn inp() {
 #[test]
 fn out() {
     signature_rule("out", 0, "(sub A B)", "(sub B A)", "(ARROW A B (A C) B)");
+}
+
+/// Links for signatures with none, as clauses 0 to 3.
+const LINKS: [&str; 4] = [
+    "(in (or (+ (sub B A))))",
+    "(in (or (+ (sub A B))))",
+    "(in (or (+ (sub B C))))",
+    "(in (or (+ (sub C B))))",
+];
+
+/// Steps on the literal `(WORD A B (A C) RESULT)`, filled, with this sign, each
+/// by a link, given as B J K, to a new atom, in which ARROW is the word.
+fn bare(rule: &str, sign: char, word: &str, result: &str, expected: &[(u8, &str, &str)]) {
+    let signature = format!("(in (or (- (obj X)) ({sign} ({word} X B (X C) {result}))))");
+    let inputs = [&LINKS[..], &[&signature]].concat();
+    for (number, link, new) in expected {
+        let new = new.replace("ARROW", word);
+        let step = format!("(by {rule} 4 1 {link} (let A) (let) (or (+ {new}) (- (obj A))))");
+        cases(&inputs, &[(*number, &step)]);
+    }
+}
+
+#[test]
+fn inh_and_inp_take_none_and_keep_it() {
+    for word in ["st", "mt"] {
+        bare(
+            "inh",
+            '+',
+            word,
+            "none",
+            &[
+                (0, "0 0 0", "(ARROW B B (A C) none)"),
+                (10, "1 0 0", "(ARROW B B (A C) none)"),
+                (10, "2 0 0", "(ARROW B B (A C) none)"),
+                (8, "0 0 1", "(ARROW B B (A C) none)"),
+                (9, "0 1 0", "(ARROW B B (A C) none)"),
+                (11, "0 0 0", "(ARROW A B (A C) none)"),
+                (11, "0 0 0", "(ARROW B B (B C) none)"),
+                (11, "0 0 0", "(ARROW B B (A C) A)"),
+                (11, "0 0 0", "(ARROW B B (A) C)"),
+            ],
+        );
+        bare(
+            "inp",
+            '+',
+            word,
+            "none",
+            &[
+                (0, "0 0 0", "(ARROW A B (B C) none)"),
+                (0, "2 0 1", "(ARROW A B (A B) none)"),
+                (10, "1 0 0", "(ARROW A B (B C) none)"),
+                (10, "3 0 1", "(ARROW A B (A B) none)"),
+                (10, "2 0 0", "(ARROW A B (B C) none)"),
+                (10, "0 0 1", "(ARROW A B (A B) none)"),
+                (9, "2 0 2", "(ARROW A B (A B) none)"),
+                (9, "2 0 65535", "(ARROW A B (A B) none)"),
+                (11, "0 0 0", "(ARROW B B (A C) none)"),
+                (11, "0 0 0", "(ARROW A B (B C) A)"),
+                (11, "2 0 1", "(ARROW A B (A B) A)"),
+                (11, "2 0 1", "(ARROW A B (A) B)"),
+            ],
+        );
+        // A term result isn't dropped for none, though it gives none (H8).
+        let dropped = [(11, "0 0 0", "(ARROW B B (A C) none)")];
+        bare("inh", '+', word, "A", &dropped);
+        let dropped = [(11, "2 0 1", "(ARROW A B (A B) none)")];
+        bare("inp", '+', word, "A", &dropped);
+    }
+    // No argument at all.
+    for word in ["st", "mt"] {
+        let signature = format!("(in (or (+ ({word} A B () none))))");
+        let step = |rule: &str, new: &str| {
+            format!("(by {rule} 0 0 1 0 0 (let) (let B) (or (+ ({word} {new} B () none))))")
+        };
+        cases(
+            &[&signature, "(in (or (+ (sub X A))))"],
+            &[(0, &step("inh", "B")), (9, &step("inp", "A"))],
+        );
+    }
+}
+
+#[test]
+fn out_needs_a_term() {
+    for word in ["st", "mt"] {
+        // By no link, and whatever the claim makes of none.
+        for link in ["0 0 0", "1 0 0", "2 0 0", "3 0 0"] {
+            for new in ["(A C) none", "(A C) A", "(A C) B", "(A) B", "(A B) none"] {
+                let new = format!("(ARROW A B {new})");
+                bare("out", '+', word, "none", &[(9, link, &new)]);
+            }
+        }
+        bare(
+            "out",
+            '+',
+            word,
+            "A",
+            &[
+                (0, "1 0 0", "(ARROW A B (A C) B)"),
+                (11, "1 0 0", "(ARROW A B (A C) none)"),
+            ],
+        );
+    }
+}
+
+#[test]
+fn only_positive_signatures_are_passed() {
+    let rows = [
+        ("inh", "0 0 0", "(ARROW B B (A C) RESULT)"),
+        ("inp", "0 0 0", "(ARROW A B (B C) RESULT)"),
+        ("inp", "2 0 1", "(ARROW A B (A B) RESULT)"),
+        ("out", "1 0 0", "(ARROW A B (A C) RESULT)"),
+    ];
+    for (rule, link, new) in rows {
+        for result in ["none", "A"] {
+            let new = new.replace("RESULT", result);
+            for word in ["mv", "mi"] {
+                bare(rule, '+', word, result, &[(9, link, &new)]);
+            }
+            for word in ["mv", "mi", "st", "mt"] {
+                bare(rule, '-', word, result, &[(9, link, &new)]);
+            }
+        }
+    }
 }
 
 #[test]

@@ -1,7 +1,7 @@
 //! Steps with each form of a literal at I and at J: which atoms cover which,
 //! and which literals have a rule's shape.
 
-use super::{after_symbols, Made, SYMBOLS};
+use super::{step, Made};
 
 /// A form of an atom, all of whose terms are A but for the arguments.
 #[derive(Clone, Copy, Debug, PartialEq, Eq)]
@@ -31,9 +31,8 @@ impl Form {
         matches!(self.word, "sv" | "si")
     }
 
-    /// "+ st or mt with a term result".
     fn is_signature(self) -> bool {
-        matches!(self.word, "st" | "mt") && !self.none
+        matches!(self.word, "st" | "mt")
     }
 
     fn write(self) -> String {
@@ -84,22 +83,6 @@ fn literal(positive: bool, form: Form) -> String {
     format!("({sign} {})", form.write())
 }
 
-/// Inputs and a step, made to be refused by a number or to be accepted.
-fn made(inputs: &[String], step: String, refused: Option<u8>, accepted: &str) -> Made {
-    let mut lines: Vec<String> = inputs
-        .iter()
-        .map(|clause| format!("(in {clause})"))
-        .collect();
-    lines.push(step);
-    Made {
-        text: after_symbols(&lines),
-        expected: match refused {
-            Some(number) => format!("refused {number} {}", SYMBOLS.len() + lines.len()),
-            None => accepted.into(),
-        },
-    }
-}
-
 /// res and fac between any two forms, and between arrows of the same word with
 /// different numbers of arguments.
 fn coverings() -> Vec<Made> {
@@ -123,16 +106,16 @@ fn covering((first, second): (Form, Form)) -> Vec<Made> {
         format!("(or {})", literal(false, first)),
         format!("(or {})", literal(true, second)),
     ];
-    let step = "(by res 0 0 1 0 0 (let) (let) (or))";
-    let mut all = vec![made(&units, step.into(), refused, "refuted 3 2\nrests 0 1")];
+    let line = "(by res 0 0 1 0 0 (let) (let) (or))";
+    let mut all = vec![step(&units, line.into(), refused, "refuted 3 2\nrests 0 1")];
     for positive in [true, false] {
         let pair = [literal(positive, first), literal(positive, second)];
         // The weaker of two positive literals stays, or the stronger of two
         // negative ones.
         let stays = if positive { &pair[0] } else { &pair[1] };
-        let step = format!("(by fac 0 0 0 1 0 (let) (let) (or {stays}))");
+        let line = format!("(by fac 0 0 0 1 0 (let) (let) (or {stays}))");
         let clause = format!("(or {} {})", pair[0], pair[1]);
-        all.push(made(&[clause], step, refused, "open 2"));
+        all.push(step(&[clause], line, refused, "open 2"));
     }
     all
 }
@@ -145,9 +128,9 @@ fn scalars() -> Vec<Made> {
     for &first in &counted {
         for &second in &counted {
             let inputs = [first, second].map(|form| format!("(or {})", literal(true, form)));
-            let step = "(by sca 0 0 1 0 0 (let) (let) (or (+ (eq A A))))";
+            let line = "(by sca 0 0 1 0 0 (let) (let) (or (+ (eq A A))))";
             let refused = if first == second { None } else { Some(10) };
-            all.push(made(&inputs, step.into(), refused, "open 3"));
+            all.push(step(&inputs, line.into(), refused, "open 3"));
         }
     }
     all
@@ -162,7 +145,8 @@ fn fits(rule: &str, at_second: bool, positive: bool, form: Form) -> bool {
         ("par", true) => positive && form.word == "eq",
         ("acy" | "tra", false) => positive && form.word == "sub",
         ("inc", false) => positive && form.word == "mem",
-        ("inh" | "inp" | "out", false) => positive && form.is_signature(),
+        ("inh" | "inp", false) => positive && form.is_signature(),
+        ("out", false) => positive && form.is_signature() && !form.none,
         ("sca", _) => positive && form.is_scalar(),
         ("eli", _) => !positive && form.word == "obj",
         _ => positive && form.word == "sub",
@@ -185,7 +169,8 @@ const FITTING: [(&str, (bool, &str), Option<&str>); 10] = [
 ];
 
 /// Steps in which one of the two literals is replaced by each literal that
-/// doesn't fit. Arrows have an argument, which inp needs.
+/// doesn't fit, and for the rules of signatures the one at I by each that does.
+/// Arrows have an argument, which inp needs.
 fn shapes() -> Vec<Made> {
     let fitting = |positive: bool, word: &'static str| {
         let form = Form::new(word);
@@ -207,24 +192,25 @@ fn shapes() -> Vec<Made> {
             .into_iter()
             .flat_map(|form| [(true, form), (false, form)])
         {
-            let wrong = literal(positive, form);
-            if !fits(rule, false, positive, form) {
-                all.push(misshapen(rule, &wrong, second.as_deref()));
+            let other = literal(positive, form);
+            let refused = |at_second| (!fits(rule, at_second, positive, form)).then_some(9);
+            if refused(false).is_some() || matches!(rule, "inh" | "inp" | "out") {
+                all.push(shape(rule, &other, second.as_deref(), refused(false)));
             }
-            if second.is_some() && !fits(rule, true, positive, form) {
-                all.push(misshapen(rule, &first, Some(&wrong)));
+            if second.is_some() && refused(true).is_some() {
+                all.push(shape(rule, &first, Some(&other), refused(true)));
             }
         }
     }
     all
 }
 
-/// A step on two literals, one of which doesn't fit the rule. The claim is
-/// what there is besides.
-fn misshapen(rule: &str, first: &str, second: Option<&str>) -> Made {
+/// A step on two literals. The claim is what there is besides and the literal
+/// at I, which the rules of signatures keep by a link between equal terms.
+fn shape(rule: &str, first: &str, second: Option<&str>, refused: Option<u8>) -> Made {
     let mut inputs = vec![format!("(or {first} (+ (obj B)))")];
     inputs.extend(second.map(|literal| format!("(or {literal})")));
     let b = usize::from(second.is_some());
-    let step = format!("(by {rule} 0 0 {b} 0 0 (let) (let) (or {first} (+ (obj B))))");
-    made(&inputs, step, Some(9), "")
+    let line = format!("(by {rule} 0 0 {b} 0 0 (let) (let) (or {first} (+ (obj B))))");
+    step(&inputs, line, refused, "open 3")
 }

@@ -97,7 +97,8 @@ fn shifted(step: &str, from: usize) -> String {
     words.join(" ")
 }
 
-/// For each rule a refutation with a step by it, in which all inputs are used.
+/// For each rule a refutation with a step by it, in which all inputs are used;
+/// for inh and inp one more, by a signature with none.
 fn by_each_rule() -> Vec<Refutation> {
     let mut all = vec![
         Refutation::new(
@@ -127,7 +128,7 @@ fn by_each_rule() -> Vec<Refutation> {
 /// A rule with two parents, its literals at I and at J, and the new one's atom.
 type FromTwo = (&'static str, [&'static str; 2], &'static str);
 
-const FROM_TWO: [FromTwo; 8] = [
+const FROM_TWO: [FromTwo; 10] = [
     ("par", ["(+ (mem A C))", "(+ (eq A B))"], "(mem B C)"),
     ("acy", ["(+ (sub A B))", "(+ (sub B A))"], "(eq A B)"),
     ("tra", ["(+ (sub A B))", "(+ (sub B C))"], "(sub A C)"),
@@ -141,6 +142,16 @@ const FROM_TWO: [FromTwo; 8] = [
         "inp",
         ["(+ (mt C C (A) C))", "(+ (sub B A))"],
         "(mt C C (B) C)",
+    ),
+    (
+        "inh",
+        ["(+ (mt A C (C) none))", "(+ (sub B A))"],
+        "(mt B C (C) none)",
+    ),
+    (
+        "inp",
+        ["(+ (st C C (A C) none))", "(+ (sub B A))"],
+        "(st C C (B C) none)",
     ),
     (
         "out",

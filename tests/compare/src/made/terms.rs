@@ -48,7 +48,7 @@ const PAIRS: [Pair; 13] = [
 /// compared, the claim, with those of the first literal, and K.
 type Row = (&'static str, [&'static str; 2], &'static str, usize);
 
-const ROWS: [Row; 18] = [
+const ROWS: [Row; 20] = [
     ("res", ["(- (mem P Q))", "(+ (mem P Q))"], "", 0),
     ("res", ["(- (sv C P () Q))", "(+ (sv C P () Q))"], "", 0),
     (
@@ -107,6 +107,12 @@ const ROWS: [Row; 18] = [
         0,
     ),
     (
+        "inh",
+        ["(+ (mt P A (A) none))", "(+ (sub C P))"],
+        "(+ (mt C A (A) none))",
+        0,
+    ),
+    (
         "inp",
         ["(+ (st A A (P B) C))", "(+ (sub C P))"],
         "(+ (st A A (C B) C))",
@@ -116,6 +122,12 @@ const ROWS: [Row; 18] = [
         "inp",
         ["(+ (mt A A (B P) C))", "(+ (sub C P))"],
         "(+ (mt A A (B C) C))",
+        1,
+    ),
+    (
+        "inp",
+        ["(+ (st A A (B P) none))", "(+ (sub C P))"],
+        "(+ (st A A (B C) none))",
         1,
     ),
     (

@@ -388,6 +388,11 @@ impl<'a> Damager<'a> {
                         let word = random_word(random);
                         reword(random, &mut literal.atom, word);
                     }
+                    // Either result will do, but not a value.
+                    _ if matches!(rule, "inh" | "inp") && literal.atom.is_signature() => {
+                        let word = *random.pick(&["mv", "mi"]);
+                        reword(random, &mut literal.atom, word);
+                    }
                     _ => toggle_none(random, &mut literal.atom),
                 });
             }
@@ -512,6 +517,18 @@ impl<'a> Damager<'a> {
                     count_after_filling(step, literal);
                 }
             }),
+            // A term dropped for none, or none for a term.
+            ("inh" | "inp", 0) => self.edit_step(|random, _, step| {
+                if let Some(new) = step.claim.first_mut() {
+                    toggle_none(random, &mut new.atom);
+                }
+            }),
+            // none widened, and kept.
+            ("out", 0) => {
+                let empty = |literal: &mut Literal| literal.atom = literal.atom.emptied();
+                self.edit_premise(false, |_, _, literal| empty(literal));
+                self.edit_step(|_, _, step| step.claim.first_mut().into_iter().for_each(empty));
+            }
             // An equality or a sub link turned round.
             _ => self.edit_premise(true, |_, _, literal| literal.atom.terms.reverse()),
         }

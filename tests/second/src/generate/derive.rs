@@ -307,11 +307,7 @@ impl<'r> Builder<'r> {
             _ => {
                 let word = *self.random.pick(&ARROWS);
                 let atom = self.ground_arrow(word, 0);
-                if self.random.percent(30) {
-                    atom.emptied()
-                } else {
-                    atom
-                }
+                self.perhaps_emptied(&atom, 30)
             }
         }
     }
@@ -325,9 +321,10 @@ impl<'r> Builder<'r> {
         Literal::new(true, Atom::new("sub", vec![lower, upper]))
     }
 
-    /// The atom, or with `none` in place of a term result if that can be.
-    fn perhaps_emptied(&mut self, atom: &Atom) -> Atom {
-        if self.random.percent(40) {
+    /// The atom, or in so many of 100 cases the one with `none` in place of a
+    /// term result if that can be.
+    fn perhaps_emptied(&mut self, atom: &Atom, cases: usize) -> Atom {
+        if self.random.percent(cases) {
             atom.emptied()
         } else {
             atom.clone()
@@ -342,13 +339,13 @@ impl<'r> Builder<'r> {
             "refl" => {}
             "res" => {
                 let atom = self.ground_atom();
-                let covered = self.perhaps_emptied(&atom);
+                let covered = self.perhaps_emptied(&atom, 40);
                 self.add_pair(Literal::new(false, covered), Literal::new(true, atom));
             }
             "fac" => {
                 let positive = self.random.percent(50);
                 let atom = self.ground_atom();
-                let covered = self.perhaps_emptied(&atom);
+                let covered = self.perhaps_emptied(&atom, 40);
                 self.add_clause(vec![
                     Literal::new(positive, covered),
                     Literal::new(positive, atom),
@@ -378,7 +375,7 @@ impl<'r> Builder<'r> {
             }
             "inh" | "inp" | "out" => {
                 let word = *self.random.pick(&["st", "mt"]);
-                let atom = self.ground_arrow(word, usize::from(rule == "inp"));
+                let mut atom = self.ground_arrow(word, usize::from(rule == "inp"));
                 let place = match rule {
                     "inh" => 0,
                     "inp" => 2 + self.random.below(atom.arguments()),
@@ -389,6 +386,9 @@ impl<'r> Builder<'r> {
                     "out" => self.ground_sub(old, other),
                     _ => self.ground_sub(other, old),
                 };
+                if rule != "out" {
+                    atom = self.perhaps_emptied(&atom, 30);
+                }
                 self.add_pair(Literal::new(true, atom), link);
             }
             "sca" => {
@@ -741,7 +741,7 @@ impl<'r> Builder<'r> {
     fn opposite(&mut self, literal: &Literal) -> Literal {
         let mut atom = literal.atom.clone();
         if literal.positive {
-            atom = self.perhaps_emptied(&atom);
+            atom = self.perhaps_emptied(&atom, 40);
         } else if atom.none && self.random.percent(60) {
             atom.none = false;
             atom.terms.push(self.ground_term());
@@ -776,8 +776,9 @@ pub fn fits_first(rule: &str, literal: &Literal) -> bool {
         "fac" | "par" => true,
         "acy" | "tra" => literal.positive && atom.word == "sub",
         "inc" => literal.positive && atom.word == "mem",
-        "inh" | "out" => literal.positive && atom.is_signature() && !atom.none,
-        "inp" => literal.positive && atom.is_signature() && !atom.none && atom.arguments() > 0,
+        "inh" => literal.positive && atom.is_signature(),
+        "inp" => literal.positive && atom.is_signature() && atom.arguments() > 0,
+        "out" => literal.positive && atom.is_signature() && !atom.none,
         "sca" => literal.positive && atom.is_scalar(),
         _ => !literal.positive && atom.word == "obj",
     }

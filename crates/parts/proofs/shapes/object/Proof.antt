@@ -1,4 +1,3 @@
-use mathlib.Core.Path.{refl}
 use Rattle.parts.specs.Shapes.{objectAt, stripAt}
 use Rattle.parts.proofs.shapes.object.Statement.{statement}
 use Rattle.parts.proofs.shapes.object.Tie as tie
@@ -10,4 +9,4 @@ returns c = cc
 pub object-spec : {M : Type 1} → statement M
 object-spec =
     tie.close (tie.spec
-    (λ c κs. tt) (λ c κs. tt) (λ c κs. tt) (λ c κs. tt) (λ c κs. tt) (λ c. refl) (λ c κs. tt) (λ c κs. tt) returns)
+    (λ c κs. tt) (λ c κs. tt) (λ c κs. tt) (λ c κs. tt) returns)
