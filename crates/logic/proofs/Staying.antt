@@ -1,14 +1,14 @@
 -- Each step by the former rule table (Former) is one by the rule table, with the same claim.
-use Prim.Native.Nat.{ℕ}
+use Prim.Native.Nat.{ℕ, zero, suc}
 use mathlib.Core.List.{List, [], _∷_}
 use mathlib.Core.Path.{_≡_, refl, subst}
 use lib.Dec.{T}
 use Rattle.logic.specs.declared.Rule.{Rule}
 use Rattle.logic.specs.Syntax.{Literal, Clause, Step}
 use Rattle.logic.specs.Rules.{Agreement, Holds, Row, Parent, Infers}
-use Rattle.logic.specs.StepChecks.{AllPass, parentA, parentB, parentsBelow, numbersRight, StepInfers, Shaped, Agrees, Claims, stepChecks}
+use Rattle.logic.specs.StepChecks.{AllPass, FailsFirst, parentA, parentB, parentsBelow, numbersRight, StepInfers, Shaped, Agrees, Claims, stepChecks}
 use Rattle.logic.proofs.Former.{FormerRow, FormerInfers}
-use Rattle.logic.proofs.Steps.{given→all}
+use Rattle.logic.proofs.Steps.{agrees, given→all}
 
 former-row : {k : ℕ} {rule : Rule} {l m : Literal} {g : Agreement} {new : Clause} → FormerRow k rule l m g new → Row k rule l m g new
 former-row FormerRow.res = Row.res
@@ -61,3 +61,14 @@ former-passes cs s w =
       infers = subst (λ c. StepInfers cs s (p .0) c) claim (former-infers (p .2));
       holds = holds;
     })
+
+-- The check that was the first to fail is the first to fail, unless it was 9.
+pub former-fails : (cs : List Clause) (s : Step) (n : ℕ) → (n ≡ 2 → ⊥) → FailsFirst n (formerChecks cs s) → FailsFirst n (stepChecks cs s)
+unfolding formerChecks checksBy stepChecks Shaped Agrees Claims FailsFirst
+former-fails cs s zero d w = w
+former-fails cs s (suc zero) d w = w
+former-fails cs s (suc (suc zero)) d w = absurd (d refl)
+former-fails cs s (suc (suc (suc zero))) d (p, (q, ((g, c, i), f))) = (p, (q, ((g, c, former-infers i), λ a. f (λ g c i. a g c (former-infers i)))))
+former-fails cs s (suc (suc (suc (suc zero)))) d (p, (q, ((g, c, i), (h, f)))) =
+    (p, (q, ((g, c, former-infers i), (agrees cs s (former-infers i) (h g c i), λ a. f (λ g c i. a g c (former-infers i))))))
+former-fails cs s (suc (suc (suc (suc (suc n))))) d w = absurd (w .1 .1 .1 .1 .1)

@@ -45,7 +45,7 @@ module _ (cs : List Clause) (s : Step) where
   unfolding conclusion
   conclusion-infers e = concludes→infers (parentA cs s) (parentB cs s) (s .i) (s .j) (s .k) (s .rule) e
 
-  agrees : {g : Agreement} {c : Clause} → StepInfers cs s g c → Holds g → Agrees cs s
+  pub agrees : {g : Agreement} {c : Clause} → StepInfers cs s g c → Holds g → Agrees cs s
   unfolding Agrees
   agrees w h g′ c′ w′ = let e = infers-conclusion w in let e′ = infers-conclusion w′ in subst Holds (cc) h
 
