@@ -116,51 +116,46 @@ fail-append [] Qs Rs n f w = f n (omega arith) w
 fail-append (P ∷ Ps) Qs Rs zero f w = w
 fail-append (P ∷ Ps) Qs Rs (suc n) f w = (w .0, fail-append Ps Qs Rs n (λ m e. f m (omega (arith, e))) (w .1))
 
+-- What holds of a list of former checks and then of the checks, from a step to its line's part, and from a line to the lines.
+part-onward : (P : List (Type 0) → Type 0) → ((cs : List Clause) (s : Step) → P (formerChecks cs s) → P (stepChecks cs s)) →
+    (st : State) (l : Line) → P (stepPartBy formerChecks st l) → P (stepPartBy stepChecks st l)
+unfolding stepPartBy
+part-onward P f st (sym k) w = w
+part-onward P f st (input c) w = w
+part-onward P f st (by s) w = f (clauses st) s w
+
+lines-onward : (P : List (Type 0) → Type 0) → ((st : State) (r : Reading) → P (checksOfBy formerChecks st r) → P (checksOfBy stepChecks st r)) →
+    (st : State) (rs : List Reading) (m : ℕ) → P (checksAtBy formerChecks st rs m) → P (checksAtBy stepChecks st rs m)
+unfolding checksAtBy
+lines-onward P f st [] m w = w
+lines-onward P f st (r ∷ rs) zero w = f st r w
+lines-onward P f st (r ∷ rs) (suc m) w = lines-onward P f (after st r) rs m w
+
 -- What passed the former checks passes the checks. What failed one of them first fails it first, unless that was 9: of a step it is
 -- number 2, of a line number 7.
-part-passes : (st : State) (l : Line) → AllPass (stepPartBy formerChecks st l) → AllPass (stepPartBy stepChecks st l)
-unfolding stepPartBy
-part-passes st (sym k) w = w
-part-passes st (input c) w = w
-part-passes st (by s) w = former-passes (clauses st) s w
-
-part-fails : (st : State) (l : Line) (n : ℕ) → (n ≡ 2 → ⊥) → FailsFirst n (stepPartBy formerChecks st l) → FailsFirst n (stepPartBy stepChecks st l)
-unfolding stepPartBy
-part-fails st (sym k) n d w = w
-part-fails st (input c) n d w = w
-part-fails st (by s) n d w = former-fails (clauses st) s n d w
-
 line-passes : (st : State) (r : Reading) → AllPass (checksOfBy formerChecks st r) → AllPass (checksOfBy stepChecks st r)
 unfolding checksOfBy
 line-passes st noForm w = w
-line-passes st (form l) w = pass-append (Unit ∷ lineChecks st l) _ _ (part-passes st l) w
+line-passes st (form l) w = pass-append (Unit ∷ lineChecks st l) _ _ (part-onward AllPass former-passes st l) w
 
-line-fails : (st : State) (r : Reading) (n : ℕ) → (n ≡ 7 → ⊥) → FailsFirst n (checksOfBy formerChecks st r) → FailsFirst n (checksOfBy stepChecks st r)
+line-fails : (n : ℕ) → (n ≡ 7 → ⊥) → (st : State) (r : Reading) → FailsFirst n (checksOfBy formerChecks st r) → FailsFirst n (checksOfBy stepChecks st r)
 unfolding checksOfBy lineChecks
-line-fails st noForm n d w = w
-line-fails st (form l) n d w = fail-append (Unit ∷ lineChecks st l) _ _ n (λ m e. part-fails st l m (λ k. d (omega (arith, e, k)))) w
-
-lines-pass : (st : State) (rs : List Reading) (m : ℕ) → AllPass (checksAtBy formerChecks st rs m) → AllPass (checksAtBy stepChecks st rs m)
-unfolding checksAtBy
-lines-pass st [] m w = w
-lines-pass st (r ∷ rs) zero w = line-passes st r w
-lines-pass st (r ∷ rs) (suc m) w = lines-pass (after st r) rs m w
-
-lines-fail : (st : State) (rs : List Reading) (m n : ℕ) → (n ≡ 7 → ⊥) → FailsFirst n (checksAtBy formerChecks st rs m) → FailsFirst n (checksAtBy stepChecks st rs m)
-unfolding checksAtBy
-lines-fail st [] m n d w = w
-lines-fail st (r ∷ rs) zero n d w = line-fails st r n d w
-lines-fail st (r ∷ rs) (suc m) n d w = lines-fail (after st r) rs m n d w
+line-fails n d st noForm w = w
+line-fails n d st (form l) w =
+    fail-append (Unit ∷ lineChecks st l) _ _ n (λ m e. part-onward (FailsFirst m) (λ cs s. former-fails cs s m (λ k. d (omega (arith, e, k)))) st l) w
 
 module _ (F : Figures) (text : List ℕ) where
+  passes-at : (m : ℕ) → AllPass (checksAtBy formerChecks fresh (readings F text) m) → AllPass (checksAtBy stepChecks fresh (readings F text) m)
+  passes-at m = lines-onward AllPass line-passes fresh (readings F text) m
+
   stays-accepted : AcceptedBy formerChecks F text → AcceptedBy stepChecks F text
-  stays-accepted a = record { small = a .small; passes = λ m. lines-pass fresh (readings F text) m (a .passes m); constant = a .constant }
+  stays-accepted a = record { small = a .small; passes = λ m. passes-at m (a .passes m); constant = a .constant }
 
   stays-refused : {number line : ℕ} → (number ≡ 9 → ⊥) → RefusalBy formerChecks F text number line → RefusalBy stepChecks F text number line
   stays-refused d (RefusalBy.large h) = RefusalBy.large h
   stays-refused d (RefusalBy.atLine n m h f b) =
-      RefusalBy.atLine n m h (lines-fail fresh (readings F text) m n (λ e. d (ap (λ k. 2 + k) e)) f) (λ i k. lines-pass fresh (readings F text) i (b i k))
-  stays-refused d (RefusalBy.atEnd h k c) = RefusalBy.atEnd h (λ m. lines-pass fresh (readings F text) m (k m)) c
+      RefusalBy.atLine n m h (lines-onward (FailsFirst n) (line-fails n (λ e. d (ap (λ k. 2 + k) e))) fresh (readings F text) m f) (λ i k. passes-at i (b i k))
+  stays-refused d (RefusalBy.atEnd h k c) = RefusalBy.atEnd h (λ m. passes-at m (k m)) c
 
   stays-meant : (v : Verdict) (ns : List ℕ) → ((line : ℕ) → v ≡ Refused 9 line → ⊥) → MeansBy formerChecks F text v ns → MeansBy stepChecks F text v ns
   unfolding MeansBy
