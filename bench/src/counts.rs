@@ -1,7 +1,8 @@
 //! What a check costs that does not depend on the machine: instructions, by
 //! callgrind where it is installed, and the bytes that memcpy and memmove move.
 //! Both are counted in a process of their own (`src/bin`), over a file that has
-//! each text behind its length, in four bytes, the lowest first.
+//! each text behind its length, in four bytes, the lowest first; a job follows
+//! its base.
 
 use std::path::{Path, PathBuf};
 use std::process::{Command, Output};
@@ -12,17 +13,28 @@ pub struct Counts {
     pub moved: Option<u64>,
 }
 
-pub fn of(parts: &[Vec<u8>]) -> Counts {
+/// Of `fcheck_check` on some texts.
+pub fn of_texts(texts: &[Vec<u8>]) -> Counts {
+    of(texts, "fcheck_check", &[])
+}
+
+/// Of `fcheck_check_job` on a base and a job.
+pub fn of_job(base: &[u8], job: &[u8]) -> Counts {
+    let texts = [base.to_vec(), job.to_vec()];
+    of(&texts, "fcheck_check_job", &["jobs"])
+}
+
+fn of(texts: &[Vec<u8>], function: &str, mode: &[&str]) -> Counts {
     let file = env::temp_dir().join(format!("fcheck-bench-{}", process::id()));
     let mut bytes = Vec::new();
-    for part in parts {
-        bytes.extend_from_slice(&(part.len() as u32).to_le_bytes());
-        bytes.extend_from_slice(part);
+    for text in texts {
+        bytes.extend_from_slice(&(text.len() as u32).to_le_bytes());
+        bytes.extend_from_slice(text);
     }
     fs::write(&file, bytes).unwrap();
     let counts = Counts {
-        instructions: instructions(&file),
-        moved: moved(&file),
+        instructions: instructions(&file, function, mode),
+        moved: moved(&file, mode),
     };
     fs::remove_file(&file).unwrap();
     counts
@@ -38,13 +50,15 @@ fn said(output: &Output) -> String {
     String::from_utf8_lossy(&output.stderr).into_owned()
 }
 
-/// The instructions of `fcheck_check` and what it calls.
-fn instructions(file: &Path) -> Option<u64> {
+/// The instructions of the function and what it calls.
+fn instructions(file: &Path, function: &str, mode: &[&str]) -> Option<u64> {
     let output = Command::new("valgrind")
-        .args(["--tool=callgrind", "--toggle-collect=fcheck_check"])
+        .arg("--tool=callgrind")
+        .arg(format!("--toggle-collect={function}"))
         .arg("--callgrind-out-file=/dev/null")
         .arg(program("once")?)
         .arg(file)
+        .args(mode)
         .output()
         .ok()?;
     let said = said(&output);
@@ -52,7 +66,8 @@ fn instructions(file: &Path) -> Option<u64> {
     line.rsplit(' ').next()?.parse().ok()
 }
 
-fn moved(file: &Path) -> Option<u64> {
-    let output = Command::new(program("moved")?).arg(file).output().ok()?;
+fn moved(file: &Path, mode: &[&str]) -> Option<u64> {
+    let mut command = Command::new(program("moved")?);
+    let output = command.arg(file).args(mode).output().ok()?;
     String::from_utf8_lossy(&output.stdout).trim().parse().ok()
 }

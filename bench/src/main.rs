@@ -1,10 +1,12 @@
 //! Times the proved checker, through its static library, beside the second
 //! checker, on the same texts and in one run, and prints their ratios, what does
 //! not depend on the machine (instructions a byte, bytes moved a line) and the
-//! stack that the proved one needs. It tells; it fails only where the two
-//! differ or a text is not what its family says.
+//! stack that the proved one needs. Then a base and a job beside the same text in
+//! one piece. It tells; it fails only where the checkers differ or a text is not
+//! what its family says.
 
 mod counts;
+mod jobs;
 mod machine;
 mod stack;
 mod stored;
@@ -45,7 +47,7 @@ fn main() {
         if text.family == Family::Size {
             sizes.push((text.bytes() as f64, second, fcheck));
         }
-        print_row(text, second, fcheck, &counts::of(&text.parts));
+        print_row(text, second, fcheck, &counts::of_texts(&text.parts));
         most = text
             .parts
             .iter()
@@ -62,17 +64,13 @@ fn main() {
         );
     }
     println!("\nstack that fcheck needed on these texts: at most {most} bytes");
+    jobs::print();
 }
 
 fn print_row(text: &Text, second: f64, fcheck: f64, counts: &Counts) {
     let ratio = fcheck / second;
     let goal = text.family.goal();
     let verdict = if ratio <= goal { "met" } else { "MISSED" };
-    let each = |count: Option<u64>, of: usize| {
-        count.map_or("-".into(), |count| {
-            format!("{:.1}", count as f64 / of as f64)
-        })
-    };
     println!(
         "{:<36} {:>7} {:>6} {:>11.1} {:>9.1} {:>6.2} {:>5.1} {:<7} {:>10} {:>10}",
         text.name,
@@ -86,6 +84,13 @@ fn print_row(text: &Text, second: f64, fcheck: f64, counts: &Counts) {
         each(counts.instructions, text.bytes()),
         each(counts.moved, text.lines()),
     );
+}
+
+/// A count for each of so many, where there is one.
+fn each(count: Option<u64>, of: usize) -> String {
+    count.map_or("-".into(), |count| {
+        format!("{:.1}", count as f64 / of as f64)
+    })
 }
 
 /// Holds both checkers to what the text is made for, and to each other over the
@@ -111,24 +116,27 @@ fn hold(text: &Text) {
     }
 }
 
-/// The microseconds that each checker takes for the texts: the least of the
-/// samples, since whatever else runs can only add to one.
+/// The microseconds that each checker takes for the texts.
 fn measure(parts: &[Vec<u8>]) -> (f64, f64) {
-    let second = || {
-        parts
-            .iter()
-            .for_each(|text| _ = black_box(second::check(black_box(text))))
-    };
-    let fcheck = || {
-        parts
-            .iter()
-            .for_each(|text| _ = black_box(fcheck::check(black_box(text))))
-    };
-    let (second_calls, fcheck_calls) = (calls(&second), calls(&fcheck));
+    least(
+        || (parts.iter()).for_each(|text| run_once(|| second::check(black_box(text)))),
+        || (parts.iter()).for_each(|text| run_once(|| fcheck::check(black_box(text)))),
+    )
+}
+
+/// Runs a check, whose answer counts as used.
+fn run_once<A>(check: impl Fn() -> A) {
+    black_box(check());
+}
+
+/// The microseconds that each of two takes, in turns: the least of the samples,
+/// since whatever else runs can only add to one.
+fn least(one: impl Fn(), two: impl Fn()) -> (f64, f64) {
+    let (one_calls, two_calls) = (calls(&one), calls(&two));
     let mut least = (f64::MAX, f64::MAX);
     for _ in 0..SAMPLES {
-        least.0 = least.0.min(sample(&second, second_calls));
-        least.1 = least.1.min(sample(&fcheck, fcheck_calls));
+        least.0 = least.0.min(sample(&one, one_calls));
+        least.1 = least.1.min(sample(&two, two_calls));
     }
     least
 }

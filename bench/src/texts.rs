@@ -79,7 +79,7 @@ impl Text {
 
 pub fn all() -> Vec<Text> {
     use Family::*;
-    let ordinary = written(&ordinary(MAX_BYTES));
+    let ordinary = ordinary_text();
     let long = long_parent(&big("(f 0)"), "(let)");
     let filled = long_parent(&big("(v 0)"), "(let (f 0))");
     let deep = deep_terms();
@@ -98,7 +98,7 @@ pub fn all() -> Vec<Text> {
         Text::new("e  ordinary clauses, 16 KB", Size, sized(16 * 1024)),
         Text::new("e  ordinary clauses, 64 KB", Size, sized(64 * 1024 - 1)),
         Text::new("f  many short lines", Short, short_lines()),
-        Text::new("g  facts", Facts, facts()),
+        Text::new("g  facts", Facts, facts(MAX_LINES - 200)),
         Text::new("h  refl steps", Reflexive, refl_steps()),
         corpus(),
         Text::new(
@@ -136,6 +136,11 @@ fn ordinary(bytes: usize) -> Derivation {
 
 fn written(derivation: &Derivation) -> Vec<u8> {
     write_lines(&derivation.lines())
+}
+
+/// The largest one.
+pub fn ordinary_text() -> Vec<u8> {
+    sized(MAX_BYTES)
 }
 
 fn sized(bytes: usize) -> Vec<u8> {
@@ -241,10 +246,10 @@ fn short_lines() -> Vec<u8> {
     filled_with(SYMBOLS.into(), "(in (or))\n")
 }
 
-/// 200 symbols without terms, and one-literal facts about them.
-fn facts() -> Vec<u8> {
+/// 200 symbols without terms, and so many one-literal facts about them.
+pub fn facts(count: usize) -> Vec<u8> {
     let mut text = "(sym 0)\n".repeat(200);
-    for number in 0..MAX_LINES - 200 {
+    for number in 0..count {
         let (member, class) = (number % 200, number * 7 % 200);
         text.push_str(&format!("(in (or (+ (mem (f {member}) (f {class})))))\n"));
     }
@@ -275,7 +280,7 @@ fn filled_both() -> Vec<u8> {
 
 /// As many lines as a text may have: a chain of short steps, each from the one
 /// before, and the empty clause as the last. Input 1 is not used.
-fn chain() -> Vec<u8> {
+pub fn chain() -> Vec<u8> {
     let atom = "(obj (f 0))";
     let mut text = SYMBOLS.to_string();
     for clause in [

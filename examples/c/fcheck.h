@@ -23,6 +23,11 @@ enum { FCHECK_CLAUSES = 1024 };
    n < room, is 1 where the text is refuted and its first empty clause descends from input clause n, or is it, and 0 otherwise. */
 uint32_t fcheck_check(const uint8_t *text, size_t length, size_t *first, size_t *second, uint8_t *rests, size_t room);
 
+/* The same for a text in two parts, a base and a job: where the base alone is refused, the answer is its own, and otherwise that of the
+   base's bytes followed by the job's. Neither is copied. */
+uint32_t fcheck_check_job(const uint8_t *base, size_t base_length, const uint8_t *job, size_t job_length, size_t *first, size_t *second,
+                          uint8_t *rests, size_t room);
+
 #ifdef __cplusplus
 }
 #endif

@@ -1,13 +1,10 @@
-//! Prints how many bytes memcpy and memmove move while each text of a file is
-//! checked once: this program has its own two.
+//! Prints how many bytes memcpy and memmove move while each check of a file runs
+//! once: this program has its own two.
 
-#[path = "../stored.rs"]
-mod stored;
+#[path = "../run.rs"]
+mod run;
 
 use std::arch::asm;
-use std::env;
-use std::hint::black_box;
-use std::path::Path;
 use std::sync::atomic::{AtomicU64, Ordering::Relaxed};
 
 static MOVED: AtomicU64 = AtomicU64::new(0);
@@ -39,12 +36,11 @@ pub unsafe extern "C" fn memmove(to: *mut u8, from: *const u8, count: usize) -> 
 }
 
 fn main() {
-    let file = env::args_os().nth(1).expect("a file");
     let mut moved = 0;
-    for text in &stored::texts(Path::new(&file)) {
+    run::each(|check| {
         let before = MOVED.load(Relaxed);
-        black_box(fcheck::check(black_box(text)));
+        check();
         moved += MOVED.load(Relaxed) - before;
-    }
+    });
     println!("{moved}");
 }

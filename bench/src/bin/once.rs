@@ -1,14 +1,8 @@
-//! Checks each text of a file once, for callgrind.
+//! Runs each check of a file once, for callgrind.
 
-#[path = "../stored.rs"]
-mod stored;
-
-use std::env;
-use std::path::Path;
+#[path = "../run.rs"]
+mod run;
 
 fn main() {
-    let file = env::args_os().nth(1).expect("a file");
-    for text in &stored::texts(Path::new(&file)) {
-        std::hint::black_box(fcheck::check(text));
-    }
+    run::each(|check| check());
 }

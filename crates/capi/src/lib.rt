@@ -1,10 +1,10 @@
-// `check` for callers in C and Rust: an answer as three numbers and bytes.
+// `check` and `check_job` for callers in C and Rust: an answer as three numbers and bytes.
 ghost use Prim.Native.Nat.{_≤_};
 ghost use mathlib.Core.Path.{_≡_};
 ghost use lib.ListN.{length};
 ghost use Rattle.text.specs.Figures.{office};
 ghost use Rattle.verdict.specs.Means.{named};
-ghost use Rattle.verdict.specs.Answer.{verdict, rests as restsOf};
+ghost use Rattle.verdict.specs.Answer.{verdict, rests as restsOf, jointly};
 ghost use Rattle.capi.specs.Numbered.{wordNumber, firstNumber, secondNumber, flag, flags, Flagged};
 use text::LINES;
 use verdict::Verdict;
@@ -81,8 +81,33 @@ fn put_flags(marks: &[bool; LINES], out: &mut [u8])
     put_between(marks, out, most, room);
 }
 
-// The answer to a text: answers the verdict's word, 0 refused, 1 open, 2 refuted, and leaves its numbers in first and second,
+// The answer to a base and a job: answers the verdict's word, 0 refused, 1 open, 2 refuted, and leaves its numbers in first and second,
 // 0 in second where it has one number. Byte n of rests becomes 1 where the refutation rests on input n, and 0 otherwise.
+#[no_mangle]
+pub extern "C" fn fcheck_check_job<'a>(
+    base: &'a [u8],
+    job: &'a [u8],
+    first: &mut usize,
+    second: &mut usize,
+    rests: &mut [u8],
+) -> u32
+    ensures { λ r. ⌜ r ≡ wordNumber (verdict office (jointly office (now (base .entry)) (now (job .entry)))) ⌝ }
+    ensures { λ _. ⌜ now (first .exit) ≡ firstNumber (verdict office (jointly office (now (base .entry)) (now (job .entry)))) ⌝ }
+    ensures { λ _. ⌜ now (second .exit) ≡ secondNumber (verdict office (jointly office (now (base .entry)) (now (job .entry)))) ⌝ }
+    ensures { λ _.
+        ⌜ now (rests .exit) ≡ flags (length (now (rests .entry)))
+        (restsOf office (jointly office (now (base .entry)) (now (job .entry)))) ⌝ }
+    ensures { λ _. ⌜ (now (base .exit) ≡ now (base .entry)) × (now (job .exit) ≡ now (job .entry)) ⌝ }
+{
+    let answer = verdict::check_job(base, job);
+    let v = answer.verdict;
+    *first = first_number(v);
+    *second = second_number(v);
+    put_flags(&answer.rests, rests);
+    word(v)
+}
+
+// The answer to a text, in the same way: a base with no job.
 #[no_mangle]
 pub extern "C" fn fcheck_check(
     text: &[u8],
@@ -96,10 +121,5 @@ pub extern "C" fn fcheck_check(
     ensures { λ _. ⌜ now (rests .exit) ≡ flags (length (now (rests .entry))) (restsOf office (now (text .entry))) ⌝ }
     ensures { λ _. ⌜ now (text .exit) ≡ now (text .entry) ⌝ }
 {
-    let answer = verdict::check(text);
-    let v = answer.verdict;
-    *first = first_number(v);
-    *second = second_number(v);
-    put_flags(&answer.rests, rests);
-    word(v)
+    fcheck_check_job(text, &text[0..0], first, second, rests)
 }

@@ -9,7 +9,7 @@ use native.Mathlib.Numerals.{add-one}
 use borrow.Author.Tests.{eq-eqb, ne-eqb, lt-ltb, le-leb}
 use lib.Dec.{T, leb, ltb, eqb, eqb·suc-zero, leb→le, ltb→lt}
 use lib.ListN.{length, getD, drop, set, length-append, length-set, length-drop, List·getD-append}
-use lib.Seq.{take-suc-set, getD-set-same, getD-set-other, getD-append-seam, drop-drop, drop-append-le}
+use lib.Seq.{take-suc-set, getD-set-same, getD-set-other, getD-append-seam}
 use Rattle.logic.specs.Syntax.{Clause, Step, Line, input, by}
 use Rattle.logic.specs.Syntax as syntax
 use Rattle.logic.specs.Each.{any, declares, eachTerms, eachClause, width}
@@ -35,7 +35,7 @@ use Rattle.reader.proofs.StateCode.{zero-or}
 
 pub fresh-begins : Begins freshState
 unfolding Begins freshState fresh heldTable clauses
-fresh-begins depth text = record {
+fresh-begins depth part = record {
   counts-room = refl;
   starts-room = refl;
   literals-room = refl;
@@ -75,7 +75,7 @@ rotate false true true = refl
 rotate false true false = refl
 rotate false false c = refl
 
-module _ {depth : ℕ} {text : List ℕ} {held : code.HeldState} {st : State} (R : Represents depth text held st) (bytes : List ℕ) where
+module _ {depth : ℕ} {part : ℕ → List ℕ} {held : code.HeldState} {st : State} (R : Represents depth part held st) (bytes : List ℕ) where
   held-failure : (r : Reading) →
       failureOf (held .symbols) (held .clauses) (held .inputs) (hasConstant (st .symbols)) (lineOf (st .symbols) bytes r) ≡ readFailure st r
   unfolding failureOf failureIn clauseFailure readFailure lineFailure lineOf ordered constantReady withinLimits symbolsDeclared clauses stepMeasure joined clauseMeasure termsMeasure
@@ -92,7 +92,7 @@ module _ {depth : ℕ} {text : List ℕ} {held : code.HeldState} {st : State} (R
 pub line-seen : (depth : ℕ) (counts : List ℕ) (symbols clauses inputs : ℕ) (bytes : List ℕ) →
     Sees depth counts symbols clauses inputs bytes (seenAt depth counts symbols clauses inputs bytes)
 unfolding Sees seenAt heldTable
-line-seen depth counts symbols clauses inputs bytes text held st R a b c d =
+line-seen depth counts symbols clauses inputs bytes part held st R a b c d =
     rw (a, b, c, d, R .table) (held-failure R bytes (readLine depth bytes), refl)
 
 -- What holds of each number held and its clause holds with one more of both.
@@ -111,11 +111,11 @@ module _ (cs : List Clause) (c : Clause) (xs : List ℕ) (x n : ℕ) (count : n 
       go (no q) = rw e (old-held m (omega (arith, ap length e, length-append cs (c ∷ []))))
 
 -- One clause more.
-clause-added : {depth : ℕ} {text : List ℕ} {held : code.HeldState} {st st' : State} {c : Clause} {at literals wide inputs : ℕ} → Represents depth text held st →
-    held .clauses < office .lines → Stands depth text at c → literals ≡ length c → wide ≡ width c → st' .symbols ≡ st .symbols →
-    clauses st' ≡ clauses st ++ (c ∷ []) → inputs ≡ length (st' .inputs) → Represents depth text (withClause held at literals wide inputs) st'
+clause-added : {depth : ℕ} {part : ℕ → List ℕ} {held : code.HeldState} {st st' : State} {c : Clause} {at literals wide inputs : ℕ} → Represents depth part held st →
+    held .clauses < office .lines → Stands depth part at c → literals ≡ length c → wide ≡ width c → st' .symbols ≡ st .symbols →
+    clauses st' ≡ clauses st ++ (c ∷ []) → inputs ≡ length (st' .inputs) → Represents depth part (withClause held at literals wide inputs) st'
 unfolding heldTable
-clause-added {depth} {text} {held} {st} {st'} {c} {at} {literals} {wide} {inputs} R full S el ew t e i = record {
+clause-added {depth} {part} {held} {st} {st'} {c} {at} {literals} {wide} {inputs} R full S el ew t e i = record {
   counts-room = R .counts-room;
   starts-room = length-set (held .starts) (held .clauses) at ∙ R .starts-room;
   literals-room = length-set (held .literals) (held .clauses) literals ∙ R .literals-room;
@@ -124,7 +124,7 @@ clause-added {depth} {text} {held} {st} {st'} {c} {at} {literals} {wide} {inputs
   symbols = R .symbols ∙ ap length (sym t);
   inputs = i;
   count = rw (e, R .count, length-append) refl;
-  places = each (held .starts) at (R .starts-room) (λ m d. Stands depth text m d) S (R .places);
+  places = each (held .starts) at (R .starts-room) (λ m d. Stands depth part m d) S (R .places);
   literals = each (held .literals) literals (R .literals-room) (λ m d. m ≡ length d) el (R .literals);
   widths = each (held .widths) wide (R .widths-room) (λ m d. m ≡ width d) ew (R .widths);
 }
@@ -133,24 +133,25 @@ clause-added {depth} {text} {held} {st} {st'} {c} {at} {literals} {wide} {inputs
         (m : ℕ) → m < length (clauses st') → Q (getD (set xs (held .clauses) x) m 0) (getD (clauses st') m [])
     each xs x r Q new old = each-held (clauses st) c xs x (held .clauses) (R .count) (omega arith) Q new old (clauses st') e
 
--- A clause of a line stands in the text where the line does.
-clause-stands : {depth start : ℕ} {text bytes : List ℕ} {held : code.HeldState} → LineStands text start bytes held → (at : ℕ) (c : Clause) → at ≤ length bytes →
-    drop at bytes ≡ fromClause c → T (formedClause depth c) → T (clauseFits c) → Stands depth text (placed start at) c
+-- A clause of a line stands where the line does.
+clause-stands : {depth start : ℕ} {part : ℕ → List ℕ} {bytes : List ℕ} {held : code.HeldState} → LineStands part start bytes held → (at : ℕ) (c : Clause) →
+    drop at bytes ≡ fromClause c → T (formedClause depth c) → T (clauseFits c) → Stands depth part (placed start at) c
 unfolding placed fromClause
-clause-stands {start = start} {text = text} {bytes = bytes} P at c k f formed fits =
+clause-stands {start = start} {part = part} {bytes = bytes} P at c f formed fits =
     let rest = P .rest in
-    let n : length text - start ≡ length bytes + length rest = sym (length-drop start text) ∙ ap length (P .stands) ∙ length-append bytes rest in
+    let n = ap length f ∙ ap length (in-front (clause-plain c) (41 ∷ [])) ∙ length-append (putClause c []) (41 ∷ []) in
+    let k : at < length bytes = omega (arith, n, length-drop at bytes) in
     let tail = ap (λ x. x ++ rest) (in-front (clause-plain c) (41 ∷ [])) ∙ append-assoc (putClause c []) (41 ∷ []) rest ∙ sym (in-front (clause-plain c) (41 ∷ rest)) in
-    rw (le-leb (start + at) (office .bytes) (omega (arith, P .small, P .begins))) (record {
+    rw (le-leb (start + at) (office .bytes) (omega (arith, P .small))) (record {
       rest = 41 ∷ rest;
-      written = sym (drop-drop at start text) ∙ ap (drop at) (P .stands) ∙ drop-append-le at bytes rest k ∙ rw f tail;
+      written = P .stands at k ∙ rw f tail;
       formed = formed;
       fits = fits;
     })
 
 -- One symbol more.
-symbol-added : {depth : ℕ} {text : List ℕ} {held : code.HeldState} {st : State} (k : ℕ) → Represents depth text held st → held .symbols < maxSymbols →
-    Represents depth text (withSymbol held k) (advance st (syntax.sym k))
+symbol-added : {depth : ℕ} {part : ℕ → List ℕ} {held : code.HeldState} {st : State} (k : ℕ) → Represents depth part held st → held .symbols < maxSymbols →
+    Represents depth part (withSymbol held k) (advance st (syntax.sym k))
 unfolding heldTable advance clauses
 symbol-added {held = held} k R less = record {
   counts-room = length-set (held .counts) (held .symbols) k ∙ R .counts-room;
@@ -180,7 +181,7 @@ unfolding clauses advance
 step-clauses st s = ap (λ x. st .inputs ++ x) (map-append claimOf (st .steps) (s ∷ [])) ∙ sym (append-assoc (st .inputs) (map claimOf (st .steps)) (s .claim ∷ []))
 
 -- After a line that passes checks 2 to 6 the state that comes back represents the state after the line.
-module _ {depth start : ℕ} {text bytes : List ℕ} {held : code.HeldState} {st : State} (R : Represents depth text held st) (P : LineStands text start bytes held)
+module _ {depth start : ℕ} {part : ℕ → List ℕ} {bytes : List ℕ} {held : code.HeldState} {st : State} (R : Represents depth part held st) (P : LineStands part start bytes held)
     (passes : readFailure st (readLine depth bytes) ≡ 0) where
   line-fits : (l : Line) → readLine depth bytes ≡ form l → T (formedLine depth l) × T (withinLimits st l)
   unfolding readFailure lineFailure
@@ -225,7 +226,7 @@ module _ {depth start : ℕ} {text bytes : List ℕ} {held : code.HeldState} {st
       rw (lt-ltb (held .inputs) (office .lines) (omega (arith, P .room, R .count, R .inputs, length-append (st .inputs) (map claimOf (st .steps)))))
 
   state-after : (r : Reading) → readLine depth bytes ≡ r →
-      Represents depth text (withAdded held (addedBy start (held .inputs) (lineOf (st .symbols) bytes r))) (after st r)
+      Represents depth part (withAdded held (addedBy start (held .inputs) (lineOf (st .symbols) bytes r))) (after st r)
   unfolding after lineOf withAdded addedBy formNumber advance readFailure clauseMeasure stepMeasure joined countedIn
   state-after noForm e = absurd (omega (arith, sym (ap (readFailure st) e) ∙ passes))
   state-after (form (syntax.sym k)) e =
@@ -234,14 +235,14 @@ module _ {depth start : ℕ} {text bytes : List ℕ} {held : code.HeldState} {st
   state-after (form (input c)) e =
       let w = clause-limits c .0 (input-fits c e .1) in
       let place = rw e at (input-place depth (st .symbols) bytes e) in
-      clause-added R (P .room) (clause-stands P (placeOf bytes (fromClause c)) c (omega arith) place (input-fits c e .0) (input-fits c e .1))
+      clause-added R (P .room) (clause-stands P (placeOf bytes (fromClause c)) c place (input-fits c e .0) (input-fits c e .1))
       (small-byte (w .0)) (small-byte (w .2)) refl (input-clauses st c (unstepped c e)) (input-counted ∙ rw (R .inputs, length-append) refl)
   state-after (form (by s)) e =
       let w = clause-limits (s .claim) .0 (step-fits s e .1) in
       let place = rw e at (claim-place depth (st .symbols) bytes e) in
-      clause-added R (P .room) (clause-stands P (placeOf bytes (fromClause (s .claim))) (s .claim) (omega arith) place (step-fits s e .0) (step-fits s e .1))
+      clause-added R (P .room) (clause-stands P (placeOf bytes (fromClause (s .claim))) (s .claim) place (step-fits s e .0) (step-fits s e .1))
       (small-byte (w .0)) (small-byte (w .2)) refl (step-clauses st s) (R .inputs)
 
 pub line-adds : (start inputs : ℕ) (l : LineAt) → Adds start inputs l (addedBy start inputs l)
 unfolding Adds
-line-adds start inputs l depth text bytes held st R P i e passes = rw (i, e) (state-after R P passes (readLine depth bytes) refl)
+line-adds start inputs l depth part bytes held st R P i e passes = rw (i, e) (state-after R P passes (readLine depth bytes) refl)

@@ -4,7 +4,7 @@ ghost use Prim.Native.Nat.{_+_, _≤_};
 ghost use mathlib.Core.Path.{_≡_};
 ghost use mathlib.Core.Bool.{true};
 ghost use lib.ListN.{length, drop};
-ghost use Rattle.text.specs.Size.{lineCount, lineEndCount, lineLength, lineEndAt};
+ghost use Rattle.text.specs.Size.{lineCount, lineEndCount, lineLength, partAt};
 ghost use Rattle.text.specs.Split.{tooLarge};
 
 const LINE_END: u8 = b'\n';
@@ -32,14 +32,12 @@ fn clear(text: &[u8], at: usize) -> bool
 }
 
 // A place at or before the first line end, by steps of 16 bytes.
-fn near(text: &[u8], at: usize) -> usize
-    requires { ⌜ at ≤ length (now text) ⌝ }
+fn near(text: &[u8]) -> usize
     ensures { λ r.
-        ⌜ (r ≤ length (now (text .entry))) × (r + lineLength (drop r (now (text .entry))) ≡ at + lineLength
-        (drop at (now (text .entry)))) ⌝ }
+        ⌜ (r ≤ length (now (text .entry))) × (r + lineLength (drop r (now (text .entry))) ≡ lineLength (now (text .entry))) ⌝ }
 {
     let n = text.len();
-    let mut i = at;
+    let mut i = 0;
     while n - i >= STRIDE {
         if !clear(text, i) {
             return i;
@@ -49,16 +47,13 @@ fn near(text: &[u8], at: usize) -> usize
     i
 }
 
-// The place of the first line end at or after `at`, or the end of the text.
-pub fn line_end(text: &[u8], at: usize) -> usize
-    ensures { λ r. ⌜ r ≡ lineEndAt (now (text .entry)) at ⌝ }
+// How many bytes stand before the first line end; all of them, where there is none.
+pub fn line_length(text: &[u8]) -> usize
+    ensures { λ r. ⌜ r ≡ lineLength (now (text .entry)) ⌝ }
     ensures { λ _. ⌜ now (text .exit) ≡ now (text .entry) ⌝ }
 {
     let n = text.len();
-    if at >= n {
-        return n;
-    }
-    let mut i = near(text, at);
+    let mut i = near(text);
     while i < n {
         if text[i] == LINE_END {
             return i;
@@ -150,4 +145,16 @@ pub fn clause_part(text: &[u8], start: usize) -> &[u8]
     let n = text.len();
     let from = if start < n { start } else { n };
     &text[from..]
+}
+
+// Of two texts in a row, what stands from `at` on in the one that holds it.
+pub fn part_at<'a>(base: &'a [u8], job: &'a [u8], at: usize) -> &'a [u8]
+    ensures { λ r. ⌜ now r ≡ partAt (now (base .entry)) (now (job .entry)) at ⌝ }
+    ensures { λ _. ⌜ (now (base .exit) ≡ now (base .entry)) × (now (job .exit) ≡ now (job .entry)) ⌝ }
+{
+    let n = base.len();
+    if at < n {
+        return clause_part(base, at);
+    }
+    clause_part(job, at - n)
 }

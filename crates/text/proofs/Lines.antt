@@ -2,7 +2,7 @@
 use Prim.Native.Nat.{ℕ}
 use mathlib.Core.Logic.{_↔_}
 use mathlib.Core.Path.{_≡_, refl, sym, _∙_, ap}
-use mathlib.Core.Bool.{not}
+use mathlib.Core.Bool.{Bool, true, false, not, cond}
 use mathlib.Core.List.{List, [], _∷_, _++_, map}
 use native.Mathlib.Omega.{arith}
 use lib.Dec.{T, eqb, eqb→eq, T-not}
@@ -96,3 +96,27 @@ raw-exactly d (unended bs) l = (λ e. let z : _≡_ {A = ℕ} 0 1 = cc in absurd
 
 pub lines-exactly : (d : ℕ) (bs : List ℕ) (ls : List Line) → (map (readRaw d) (split bs) ≡ map form ls) ↔ ((bs ≡ writeLines ls) × T (formedLines d ls))
 lines-exactly d bs ls = (lines-sound d bs ls, λ w. ap (λ b. map (readRaw d) (split b)) (w .0) ∙ lines-complete d ls (w .1))
+
+-- Every line is ended.
+unfoldable pub AllEnded : List Raw → Type 0
+AllEnded [] = Unit
+AllEnded (ended w ∷ raws) = AllEnded raws
+AllEnded (unended w ∷ raws) = ⊥
+
+push-ended : (b : ℕ) (ls ms : List Raw) → AllEnded (push b ls) → AllEnded ls × (push b (ls ++ ms) ≡ push b ls ++ ms)
+unfolding AllEnded push
+push-ended b [] ms h = absurd h
+push-ended b (ended w ∷ ls) ms h = (h, refl)
+push-ended b (unended w ∷ ls) ms h = absurd h
+
+front-ended : (t : Bool) (b : ℕ) (ls ms both : List Raw) → (AllEnded ls → both ≡ ls ++ ms) → AllEnded (cond t (ended [] ∷ ls) (push b ls)) →
+    cond t (ended [] ∷ both) (push b both) ≡ cond t (ended [] ∷ ls) (push b ls) ++ ms
+unfolding AllEnded
+front-ended true b ls ms both e h = ap (λ x. ended [] ∷ x) (e h)
+front-ended false b ls ms both e h = let (k, q) = push-ended b ls ms h in ap (push b) (e k) ∙ q
+
+-- The lines of two texts in a row, where those of the first are ended.
+pub split-append : (base job : List ℕ) → AllEnded (split base) → split (base ++ job) ≡ split base ++ split job
+unfolding split AllEnded
+split-append [] job h = refl
+split-append (b ∷ bs) job h = front-ended (eqb b lineEnd) b (split bs) (split job) (split (bs ++ job)) (split-append bs job) h

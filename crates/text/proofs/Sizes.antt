@@ -1,18 +1,17 @@
 -- Lines counted and found in a text.
 use Prim.Native.Nat.{ℕ, suc, _+_, _-_, _≤_, _<_}
-use mathlib.Core.Logic.{_↔_}
-use mathlib.Core.Path.{_≡_, refl, _∙_, ap}
+use mathlib.Core.Path.{_≡_, refl, sym, _∙_, ap}
 use mathlib.Core.Bool.{Bool, true, false, cond}
 use mathlib.Core.List.{List, [], _∷_, _++_}
 use native.Mathlib.Omega.{arith}
-use borrow.Author.Tests.{eq-eqb, ne-eqb, lt-ltb}
-use lib.Dec.{T, eqb, eqb→eq, ltb→lt, lt→ltb}
+use borrow.Author.Tests.{eq-eqb, ne-eqb, lt-ltb, le-ltb, ltb-false}
+use lib.Dec.{T, eqb, ltb, eqb→eq}
 use lib.ListN.{length, getD, take, drop, length-drop}
-use lib.Seq.{take-all}
+use lib.Seq.{take-all, drop-drop}
 use native.Mathlib.Nat.{suc-add}
 use Rattle.text.specs.Words.{lineEnd}
 use Rattle.text.specs.Split.{Raw, ended, unended, push, split}
-use Rattle.text.specs.Size.{lineLength, lineEndAt, endedAt, lineEndCount, lineCount}
+use Rattle.text.specs.Size.{lineLength, partAt, lineEndCount, lineCount}
 use Rattle.text.proofs.Tests.{T-and, onTest}
 use Rattle.text.proofs.Plain.{unbroken}
 use Rattle.text.proofs.Places.{at-byte, past}
@@ -112,10 +111,17 @@ split-at bs h = ap split (line-rest bs h) ∙ split-line (take (lineLength bs) b
 pub split-over : (b : ℕ) (bs : List ℕ) → length (b ∷ bs) ≤ lineLength (b ∷ bs) → split (b ∷ bs) ≡ unended (b ∷ bs) ∷ []
 split-over b bs h = split-end b bs (rw (take-all (lineLength (b ∷ bs)) (b ∷ bs) h) at (line-front (b ∷ bs)))
 
--- A line is ended exactly when its bytes are fewer than those left: so `split-at` says what it is, and else `split-over`.
-pub ended-length : (text : List ℕ) (at : ℕ) → at < length text → T (endedAt text at) ↔ (lineLength (drop at text) < length (drop at text))
-unfolding endedAt lineEndAt
-ended-length text at h =
-    let e : length (drop at text) ≡ length text - at = length-drop at text in
-    rw (lt-ltb at (length text) h)
-    (λ t. let w = ltb→lt (at + lineLength (drop at text)) (length text) t in omega arith, λ w. lt→ltb (at + lineLength (drop at text)) (length text) (omega arith))
+-- Of two texts in a row: within what stands from a place on, the same text holds what follows.
+pub part-on : (base job : List ℕ) (at k : ℕ) → k < length (partAt base job at) → partAt base job (at + k) ≡ drop k (partAt base job at)
+unfolding partAt
+part-on base job at k h = go (ltb at (length base)) refl
+  where
+    go : (b : Bool) → ltb at (length base) ≡ b → partAt base job (at + k) ≡ drop k (partAt base job at)
+    go true e =
+        let g : k < length (drop at base) = rw e at h in
+        let n : at + k < length base = omega (arith, length-drop at base) in
+        rw (e, lt-ltb (at + k) (length base) n) (sym (drop-drop k at base))
+    go false e =
+        let n = ltb-false at (length base) e in
+        let m : at + k - length base ≡ (at - length base) + k = omega arith in
+        rw (e, le-ltb (at + k) (length base) (omega arith), m) (sym (drop-drop k (at - length base) job))

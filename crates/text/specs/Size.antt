@@ -1,10 +1,10 @@
 -- Nothing in this file has to be believed: the lines of a text are what `split` gives (Split), and `split-at` and `split-over`
--- (proofs/Sizes) find them by these places; `count-ended` and `count-unended` count them by the line ends.
-use Prim.Native.Nat.{ℕ, zero, suc, _+_}
-use mathlib.Core.Bool.{Bool, cond}
+-- (proofs/Sizes) find the first of them; `count-ended` and `count-unended` count them by the line ends.
+use Prim.Native.Nat.{ℕ, zero, suc, _-_}
+use mathlib.Core.Bool.{cond}
 use mathlib.Core.List.{List, [], _∷_}
 use lib.Dec.{ltb, eqb}
-use lib.ListN.{length, drop}
+use lib.ListN.{length, take, drop}
 use Rattle.text.specs.Words.{lineEnd}
 use Rattle.text.specs.Split.{split}
 
@@ -15,14 +15,14 @@ lineLength (b ∷ bs) =
     let further = suc (lineLength bs) in
     cond (eqb b lineEnd) zero further
 
--- The place of the first line end at or after a place, or the end of the text.
-unfoldable pub lineEndAt : List ℕ → ℕ → ℕ
-lineEndAt text at = cond (ltb at (length text)) (at + lineLength (drop at text)) (length text)
+-- T1, T2, "Every line ends with byte 10", "Bytes after the last line end are one more line, and that line isn't a form": the bytes of the
+-- first line, if it is ended; none, which are no form either, if it is not.
+unfoldable pub firstLine : List ℕ → List ℕ
+firstLine text = cond (ltb (lineLength text) (length text)) (take (lineLength text) text) []
 
--- T1, T2, "Every line ends with byte 10", "Bytes after the last line end are one more line, and that line isn't a form": whether the line
--- that begins at a place is ended.
-unfoldable pub endedAt : List ℕ → ℕ → Bool
-endedAt text at = ltb (lineEndAt text at) (length text)
+-- V37, "a clause is read from the part that holds it": of two texts in a row, what stands from a place on in the one that holds it.
+unfoldable pub partAt : List ℕ → List ℕ → ℕ → List ℕ
+partAt base job at = cond (ltb at (length base)) (drop at base) (drop (at - length base) job)
 
 -- How many line ends are among the bytes.
 unfoldable pub lineEndCount : List ℕ → ℕ

@@ -1,8 +1,9 @@
--- C1 to C10 have the answers of TEXT-FORM, and the example texts theirs.
-use Prim.Native.Nat.{ℕ}
+-- C1 to C10 and C13 have the answers of TEXT-FORM, and the example texts theirs.
+use Prim.Native.Nat.{ℕ, _-_}
 use Prim.Native.String.{String}
-use mathlib.Core.List.{List, [], _∷_, map}
+use mathlib.Core.List.{List, [], _∷_, _++_, map}
 use mathlib.Core.Path.{_≡_, refl, ap}
+use lib.ListN.{length, take, drop}
 use Rattle.verdict.specs.declared.Verdict.{Verdict}
 use Rattle.verdict.specs.declared.Verdict.the-variants.{Refuted, Open, Refused}
 use Rattle.logic.specs.Each.{eachTerm, eachTerms, eachAtom, eachClause, declares, termWidth, termsWidth, width}
@@ -24,9 +25,11 @@ use Rattle.reader.specs.State.{fresh, clauses, advance, isEmpty, ordered, hasCo
 use Rattle.reader.specs.Failure.{lineFailure}
 use Rattle.verdict.specs.Answer.{stepFailure, failure, isNil, firstEmpty, acceptedAs, finish, readOn, verdict, restsIn, rests}
 use Rattle.verdict.specs.Checks.{readings, tooLarge, stateOf, tableOf, inputsOf}
-use Rattle.verdict.specs.Corners.{textOf, chain, corners, AllMeant}
+use Rattle.verdict.specs.Guarantee.{isAccepted}
+use Rattle.verdict.specs.Corners.{textOf, chain, firstCorner, corners, AllMeant, JobCorners}
 use Rattle.verdict.proofs.Examples.{refutedText, openText, refusedText, modelled, bareText, bareOutText}
 use Rattle.verdict.proofs.Guaranteed.{answer-exactly}
+use Rattle.verdict.proofs.Jobs.{refused-base, joined-base, nothing-more}
 
 abbrev Row : Type 0
 Row = List String × (Verdict × List ℕ)
@@ -47,9 +50,16 @@ pub record Computed : Type 0 where
   pub bare-text : verdict office bareText ≡ Refuted 6 5
   pub bare-rests : rests office bareText ≡ 0 ∷ 1 ∷ 2 ∷ []
   pub bare-out-text : verdict office bareOutText ≡ Refused 9 5
+  pub empty-base : verdict office [] ≡ Refused 4 0
+  pub cut-base : verdict office (textOf (take 3 firstCorner)) ≡ Open 0
+  pub cut-text : verdict office (textOf (take 3 firstCorner) ++ textOf (drop 3 firstCorner)) ≡ Refuted 5 4
+  pub cut-rests : rests office (textOf (take 3 firstCorner) ++ textOf (drop 3 firstCorner)) ≡ 0 ∷ 1 ∷ 2 ∷ []
+  pub whole-text : verdict office (textOf firstCorner) ≡ Refuted 5 4
+  pub whole-rests : rests office (textOf firstCorner) ≡ 0 ∷ 1 ∷ 2 ∷ []
+  pub unended-base : verdict office (take (length (textOf firstCorner) - 1) (textOf firstCorner)) ≡ Refused 2 8
 
 pub computed : Computed
-unfolding eachTerm eachTerms eachAtom eachClause declares termWidth termsWidth width signNumber nthSign linkNumber nthLink arrowNumber nthArrow sign? link? arrow? terms? atom? call? literal? consSame clause? byNumber ℕ-discrete entries fill fills fillResult fillAtom fillLiteral fillClause parentClause parentA parentB below parentsBelow zeroIfUnused unusedZero firstLength listsFit numbersRight onAt onPlus onMinus onLink onObj onResult onMethod onPlaced onFound onSub conclude-res conclude-acy conclude-link onSignature conclude-inh conclude-inp conclude-out onScalar conclude-sca before tableRow conclude-eli conclude-two conclude-fac conclude-par conclude conclusion covers? holds? judgeConclusion judge judgedNumber mapSearch inTurn findTerm findTerms findAtom findLiteral uses bareResult bare signature scalar filled mayBeNone join count entryOr resultTerms termsOf front rest nth withResult withTerms strip oneOf digit goesOn readDigits readNumber readNext readItems readMany readVariable readApplied readTerm readArguments readResult readLink readObject readMethod readKind readAtom readSign readLiteral readClause readLet readRule readSym readInput readStep readForm whole readLine push split readRaw fresh clauses advance isEmpty ordered hasConstant constantReady argumentsFit argumentsFitAll clauseFits listFits withinLimits symbolsDeclared lineFailure after stepFailure failure isNil firstEmpty acceptedAs finish readOn verdict usedParents numbersBelow among reached restsOn restsIn rests readings tooLarge textOf chain corners stateAfter stateOf tableOf inputsOf refutedText openText refusedText bareText bareOutText
+unfolding eachTerm eachTerms eachAtom eachClause declares termWidth termsWidth width signNumber nthSign linkNumber nthLink arrowNumber nthArrow sign? link? arrow? terms? atom? call? literal? consSame clause? byNumber ℕ-discrete entries fill fills fillResult fillAtom fillLiteral fillClause parentClause parentA parentB below parentsBelow zeroIfUnused unusedZero firstLength listsFit numbersRight onAt onPlus onMinus onLink onObj onResult onMethod onPlaced onFound onSub conclude-res conclude-acy conclude-link onSignature conclude-inh conclude-inp conclude-out onScalar conclude-sca before tableRow conclude-eli conclude-two conclude-fac conclude-par conclude conclusion covers? holds? judgeConclusion judge judgedNumber mapSearch inTurn findTerm findTerms findAtom findLiteral uses bareResult bare signature scalar filled mayBeNone join count entryOr resultTerms termsOf front rest nth withResult withTerms strip oneOf digit goesOn readDigits readNumber readNext readItems readMany readVariable readApplied readTerm readArguments readResult readLink readObject readMethod readKind readAtom readSign readLiteral readClause readLet readRule readSym readInput readStep readForm whole readLine push split readRaw fresh clauses advance isEmpty ordered hasConstant constantReady argumentsFit argumentsFitAll clauseFits listFits withinLimits symbolsDeclared lineFailure after stepFailure failure isNil firstEmpty acceptedAs finish readOn verdict usedParents numbersBelow among reached restsOn restsIn rests readings tooLarge textOf chain firstCorner corners stateAfter stateOf tableOf inputsOf refutedText openText refusedText bareText bareOutText
 computed = record {
   answers = refl;
   refuted-text = refl;
@@ -62,6 +72,13 @@ computed = record {
   bare-text = refl;
   bare-rests = refl;
   bare-out-text = refl;
+  empty-base = refl;
+  cut-base = refl;
+  cut-text = refl;
+  cut-rests = refl;
+  whole-text = refl;
+  whole-rests = refl;
+  unended-base = refl;
 }
 
 -- C1 to C10.
@@ -74,3 +91,13 @@ all-meant ((lines, (v, ns)) ∷ cs) e =
 
 pub corners-right : AllMeant corners
 corners-right = all-meant corners (computed .answers)
+
+-- C13.
+pub job-corners-right : JobCorners
+unfolding isAccepted
+job-corners-right = record {
+  empty = refused-base office [] 4 0 (computed .empty-base);
+  cut = joined-base office (textOf (take 3 firstCorner)) (textOf (drop 3 firstCorner)) (rw (computed .cut-base) tt) (computed .cut-text) (computed .cut-rests);
+  whole = nothing-more office (textOf firstCorner) (computed .whole-text) (computed .whole-rests);
+  unended = refused-base office _ 2 8 (computed .unended-base);
+}

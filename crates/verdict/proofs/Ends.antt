@@ -1,7 +1,7 @@
 -- Where the text ends: the first clause without literals, and the answer.
 use Prim.Native.Nat.{ℕ, suc, _+_, _≤_, _<_}
 use mathlib.Core.Bool.{Bool, true, false, cond}
-use mathlib.Core.List.{List, [], _∷_, _++_, map}
+use mathlib.Core.List.{List, [], _∷_, map}
 use mathlib.Core.Logic.{_⊎_, inl, inr, ⊎-elim}
 use mathlib.Core.Path.{_≡_, refl, sym, ap, _∙_}
 use native.Mathlib.Omega.{arith}
@@ -75,7 +75,7 @@ unfolding clauses
 clause-count st = length-append (st .inputs) (map claimOf (st .steps)) ∙ rw (length-map (st .steps) claimOf)
 
 -- The answer, from what the state that the code holds says.
-module _ {depth : ℕ} {text : List ℕ} {held : code.HeldState} {st : State} (R : Represents depth text held st) where
+module _ {depth : ℕ} {part : ℕ → List ℕ} {held : code.HeldState} {st : State} (R : Represents depth part held st) where
   pub symbols-within : held .symbols ≤ length (held .counts)
   unfolding heldTable
   symbols-within =
@@ -101,8 +101,8 @@ module _ {depth : ℕ} {text : List ℕ} {held : code.HeldState} {st : State} (R
   finish-open {first} e f l = rw (constant-held e, ← f, ← R .count, le-ltb first (held .clauses) l)
 
   -- The inputs that are named: none, or those that the walk back marks.
-  pub named-none : {v : Verdict} → v ≡ finish st → restsIn st v ≡ [] → (rests : List Bool) → named rests ≡ [] → named rests ≡ restsIn st (finish st)
-  named-none e f rests g = g ∙ sym f ∙ ap (restsIn st) e
+  pub named-none : {v : Verdict} {ns : List ℕ} → v ≡ finish st → restsIn st v ≡ [] → ns ≡ [] → ns ≡ restsIn st (finish st)
+  named-none e f g = g ∙ sym f ∙ ap (restsIn st) e
 
   pub named-walked : {ps qs : List ℕ} {first : ℕ} → Parented st ps qs → ParentsFall (length (st .inputs)) (st .steps) → first < held .clauses → held .clauses ≤ office .lines →
       Refuted (held .clauses) first ≡ finish st → (rests : List Bool) → rests ≡ inputsFrom ps qs (held .inputs) first → named rests ≡ restsIn st (finish st)

@@ -1,6 +1,6 @@
 -- The guarantee holds of every text and its answer, and accepted texts are exactly the written derivations within the limits.
 use Prim.Native.Nat.{ℕ}
-use mathlib.Core.List.{List, []}
+use mathlib.Core.List.{List}
 use mathlib.Core.Logic.{_↔_}
 use mathlib.Core.Path.{_≡_, refl, sym, ap, subst, _∙_}
 use lib.Dec.{T}
@@ -11,7 +11,7 @@ use Rattle.logic.proofs.Descending.{given-falls, rests-exactly}
 use Rattle.text.specs.declared.Figures.{Figures}
 use Rattle.verdict.specs.declared.Verdict.{Verdict}
 use Rattle.verdict.specs.declared.Verdict.the-variants.{Refuted, Open, Refused}
-use Rattle.verdict.specs.Checks.{stateOf, tableOf, inputsOf, stepsOf, clausesOf, Accepted}
+use Rattle.verdict.specs.Checks.{stateOf, inputsOf, stepsOf, clausesOf, Accepted}
 use Rattle.verdict.specs.Answer.{verdict, restsIn, rests}
 use Rattle.verdict.specs.Means.{FirstEmpty, MeansVerdict, Names, Means}
 use Rattle.verdict.specs.Guarantee.{isAccepted, WrittenText, WholeClaim, Guarantee}
@@ -86,9 +86,8 @@ module _ (F : Figures) (text : List ℕ) where
   guaranteed v ns m = let w = whole-claim v ns m in record { sound = λ S. w .sound (λ x. T (S x)); accepts = w .accepts }
 
   -- What `check` promises, from its equations.
-  pub answered : (v : Verdict) (ns : List ℕ) → v ≡ verdict F text → ns ≡ restsIn (stateOf F text) (verdict F text) →
+  pub answered : (v : Verdict) (ns : List ℕ) → v ≡ verdict F text → ns ≡ rests F text →
       (v ≡ verdict F text) × ((ns ≡ rests F text) × (Means F text v ns × (Guarantee F text v ns × (text ≡ text))))
-  unfolding rests
   answered v ns e f = let m = answer-exactly v ns .0 (sym e, sym f) in (e, (f, (m, (guaranteed v ns m, refl))))
 
   -- "Accepted" and "a written derivation within the limits" are the same.

@@ -1,11 +1,10 @@
 -- A step that is judged by what the reading holds of each clause.
 use Prim.Native.Nat.{ℕ, _≤_, _<_}
-use mathlib.Core.Bool.{Bool, cond}
 use mathlib.Core.List.{List, []}
 use mathlib.Core.Path.{_≡_, ap, _∙_}
 use native.Mathlib.Omega.{arith}
 use lib.Dec.{T, leb, leb→le}
-use lib.ListN.{length, drop, getD}
+use lib.ListN.{length, getD}
 use Rattle.logic.specs.declared.Judged.{Judged}
 use Rattle.logic.specs.Syntax.{Terms, Step, by}
 use Rattle.logic.specs.Terms.{count}
@@ -40,18 +39,18 @@ lists-short st s passes =
 abbrev pub sizeOf : HeldClause → Size
 sizeOf a = record { literals = a .literals; width = a .width }
 
-module _ {depth : ℕ} {text : List ℕ} {held : code.HeldState} {st : State} (R : Represents depth text held st) where
-  holds : (n : ℕ) (a : HeldClause) {p : List ℕ} → HeldOf held n a → p ≡ drop (a .start) text → n < length (clauses st) → HoldsClause depth p (sizeOf a) (getD (clauses st) n [])
+module _ {depth : ℕ} {part : ℕ → List ℕ} {held : code.HeldState} {st : State} (R : Represents depth part held st) where
+  holds : (n : ℕ) (a : HeldClause) {p : List ℕ} → HeldOf held n a → p ≡ part (a .start) → n < length (clauses st) → HoldsClause depth p (sizeOf a) (getD (clauses st) n [])
   unfolding HeldOf
   holds n a H e h =
       let (x, y, z) = H (omega (arith, R .count)) in
       let S = R .places n h in
       record { rest = S .rest; written = e ∙ rw x (S .written); formed = S .formed; literals = y ∙ R .literals n h; narrow = z ∙ R .widths n h }
 
-pub judges-read : (depth : ℕ) (text : List ℕ) (own : ℕ) (a b : HeldClause) (line : List ℕ) (l : LineAt) (p q : List ℕ) (r : Judged) → p ≡ drop (a .start) text →
-    q ≡ drop (b .start) text → Judges depth own p (sizeOf a) q (sizeOf b) line l r → JudgesRead depth text own a b line l r
+pub judges-read : (depth : ℕ) (part : ℕ → List ℕ) (own : ℕ) (a b : HeldClause) (line : List ℕ) (l : LineAt) (p q : List ℕ) (r : Judged) → p ≡ part (a .start) →
+    q ≡ part (b .start) → Judges depth own p (sizeOf a) q (sizeOf b) line l r → JudgesRead depth part own a b line l r
 unfolding Judges JudgesRead lineOf
-judges-read depth text own a b line l p q r x y J held st s table o ha hb le R e passes =
+judges-read depth part own a b line l p q r x y J held st s table o ha hb le R e passes =
     let short = lists-short st s passes in
     let m : l .a ≡ s .a = ap (λ (l : LineAt). l .a) le in
     let n : l .b ≡ s .b = ap (λ (l : LineAt). l .b) le in

@@ -1,6 +1,5 @@
 pub mod Meaning
 pub mod Examples
-pub mod Corners
 pub mod Entailed
 pub mod Accepts
 pub mod Guaranteed
@@ -9,3 +8,6 @@ pub mod Worked
 pub mod Ends
 pub mod Judging
 pub mod Running
+pub mod Jobs
+pub mod Corners
+pub mod TwoTexts

@@ -1,8 +1,8 @@
 -- The answer as a function of a text's bytes. Nothing here has to be believed: `answer-exactly` (proofs/Guaranteed) says that it gives a
--- verdict and numbers exactly where they are meant (Means).
+-- verdict and numbers exactly where they are meant (Means), and `job-exactly` (proofs/Jobs) the same of a base and a job (Job).
 use Prim.Native.Nat.{ℕ, suc}
 use mathlib.Core.Bool.{Bool, true, false, cond}
-use mathlib.Core.List.{List, [], _∷_}
+use mathlib.Core.List.{List, [], _∷_, _++_}
 use lib.Dec.{eqb, ltb}
 use lib.ListN.{length}
 use Rattle.logic.specs.Syntax.{Clause, Line, sym, input, by}
@@ -16,6 +16,7 @@ use Rattle.reader.specs.Failure.{lineFailure}
 use Rattle.verdict.specs.declared.Verdict.{Verdict}
 use Rattle.verdict.specs.declared.Verdict.the-variants.{Refuted, Open, Refused}
 use Rattle.verdict.specs.Checks.{readings, tooLarge, stateOf}
+use Rattle.verdict.specs.Guarantee.{isAccepted}
 
 -- The number of the first of checks 2 to 11 that fails at a line, 0 where none does.
 unfoldable pub stepFailure : State → Line → ℕ
@@ -63,3 +64,7 @@ restsIn st (Refused number line) = []
 
 unfoldable pub rests : Figures → List ℕ → List ℕ
 rests F text = restsIn (stateOf F text) (verdict F text)
+
+-- Of a base and a job, the text that is answered: the base, if it is refused, and otherwise the two in a row.
+unfoldable pub jointly : Figures → List ℕ → List ℕ → List ℕ
+jointly F base job = cond (isAccepted (verdict F base)) (base ++ job) base

@@ -1,12 +1,11 @@
-// The answer to a text: its lines are read and judged one after the other, and where none fails the clauses are counted.
+// The answer to a text, or to a base and a job: the lines are read and judged one after the other, and where none fails the clauses are
+// counted.
 
-use descent::rests;
 use descent::used_parents;
 use lines::forms::LineAt;
 use lines::forms::STEP;
 use lines::forms::form_number;
 use logic::Judged;
-use reader::states::HeldState;
 use reader::states::Seen;
 use reader::states::adds;
 use reader::states::fresh;
@@ -16,26 +15,28 @@ use reader::states::slot;
 use reader::states::table;
 use rules::steps::Size;
 use rules::steps::judge;
-use scan::texts::clause_part;
-use scan::texts::line_end;
+use scan::texts::line_length;
+use scan::texts::part_at;
 use scan::texts::too_large;
 use text::BYTES;
 use text::DEPTH;
 use text::Figures;
 use text::LINES;
-ghost use Prim.Native.Nat.{_≤_, _<_};
+ghost use Prim.Native.Nat.{_+_, _≤_, min};
 ghost use mathlib.Core.Path.{_≡_};
 ghost use mathlib.Core.Bool.{false};
 ghost use mathlib.Core.List.{[]};
-ghost use lib.ListN.{length};
+ghost use lib.ListN.{length, take};
 ghost use Rattle.logic.specs.StepChecks.{judgedNumber};
 ghost use Rattle.text.specs.Figures.{office, UpToOffice};
-ghost use Rattle.text.specs.Size.{lineEndAt};
+ghost use Rattle.reader.specs.State.{hasConstant};
+ghost use Rattle.text.specs.Size.{firstLine, partAt};
 ghost use Rattle.verdict.specs.Checks.{tooLarge};
 ghost use Rattle.verdict.specs.Means.{Means, named};
-ghost use Rattle.verdict.specs.Answer.{verdict, rests};
+ghost use Rattle.verdict.specs.Answer.{verdict, rests, jointly};
 ghost use Rattle.verdict.specs.Guarantee.{Guarantee};
-ghost use Rattle.verdict.specs.Running.{lineBytes, JudgesRead, FirstFailing, FindsEmpty, Finishes, Answers};
+ghost use Rattle.verdict.specs.Job.{JobMeans, JobGuarantee};
+ghost use Rattle.verdict.specs.Running.{JudgesRead, FirstFailing, FindsEmpty, Finishes, seamFailure, Answers};
 
 // What is found of a text.
 pub enum Verdict {
@@ -84,28 +85,29 @@ fn number(j: Judged) -> usize
     }
 }
 
-// The bytes of the line from `at` to `end`; none, which are no form, where the text ends before the line does.
-fn ended(text: &[u8], at: usize, end: usize) -> &[u8]
-    requires { ⌜ (at < length (now text)) × (end ≡ lineEndAt (now text) at) ⌝ }
-    ensures { λ r. ⌜ now r ≡ lineBytes (now (text .entry)) at ⌝ }
+// The bytes of the first line; none, which are no form, where the text ends before the line does.
+fn first_line(text: &[u8]) -> &[u8]
+    ensures { λ r. ⌜ now r ≡ firstLine (now (text .entry)) ⌝ }
 {
+    let end = line_length(text);
     if end >= text.len() {
         return &text[0..0];
     }
-    &text[at..end]
+    &text[..end]
 }
 
 // Checks 7 to 11 of a step, by what the reading holds of its parents.
-fn judged(
+fn judged<'a>(
     depth: u8,
-    text: &[u8],
+    base: &'a [u8],
+    job: &'a [u8],
     own: usize,
     a: HeldClause,
     b: HeldClause,
     line: &[u8],
     l: LineAt,
 ) -> Judged
-    ensures { λ r. ⌜ JudgesRead depth (now (text .entry)) own a b (now (line .entry)) l r ⌝ }
+    ensures { λ r. ⌜ JudgesRead depth (partAt (now (base .entry)) (now (job .entry))) own a b (now (line .entry)) l r ⌝ }
 {
     let of_a = Size {
         literals: a.literals as usize,
@@ -115,22 +117,23 @@ fn judged(
         literals: b.literals as usize,
         width: b.width as usize,
     };
-    let p = clause_part(text, a.start as usize);
-    let q = clause_part(text, b.start as usize);
+    let p = part_at(base, job, a.start as usize);
+    let q = part_at(base, job, b.start as usize);
     judge(depth, own, p, of_a, q, of_b, line, l)
 }
 
 // The first failing check of 2 to 11 of a line, or 0: a step is judged by the clauses before it.
-fn failing(
+fn failing<'a>(
     depth: u8,
-    text: &[u8],
+    base: &'a [u8],
+    job: &'a [u8],
     own: usize,
     a: HeldClause,
     b: HeldClause,
     line: &[u8],
     seen: Seen,
 ) -> usize
-    ensures { λ r. ⌜ FirstFailing depth (now (text .entry)) own a b (now (line .entry)) seen r ⌝ }
+    ensures { λ r. ⌜ FirstFailing depth (partAt (now (base .entry)) (now (job .entry))) own a b (now (line .entry)) seen r ⌝ }
 {
     let failure = seen.failure;
     if failure != 0 {
@@ -142,16 +145,21 @@ fn failing(
     if form != STEP {
         return 0;
     }
-    number(judged(depth, text, own, a, b, line, l))
+    number(judged(depth, base, job, own, a, b, line, l))
+}
+
+// Whether some symbol of those held takes no terms.
+fn constant_held(counts: &[u8], symbols: usize) -> bool
+    ensures { λ r. ⌜ r ≡ hasConstant (take symbols (now (counts .entry))) ⌝ }
+{
+    has_constant(table(counts, symbols))
 }
 
 // The number of the first empty clause, or of all clauses where none is empty.
-fn first_empty(state: HeldState) -> usize
-    requires { ⌜ state .clauses ≤ office .lines ⌝ }
-    ensures { λ r. ⌜ FindsEmpty state r ⌝ }
+fn first_empty(literals: &[u8], clauses: usize) -> usize
+    requires { ⌜ clauses ≤ length (now literals) ⌝ }
+    ensures { λ r. ⌜ FindsEmpty (now (literals .entry)) clauses r ⌝ }
 {
-    let literals = state.literals;
-    let clauses = state.clauses;
     let mut n = 0;
     while n < clauses {
         if literals[n] == 0 {
@@ -162,47 +170,96 @@ fn first_empty(state: HeldState) -> usize
     n
 }
 
-// An answer that names no input.
-fn plain(verdict: Verdict) -> Answer
-    ensures { λ r. ⌜ (r .verdict ≡ verdict) × (named (r .rests) ≡ []) ⌝ }
+// All lines have passed. Of each step the parents that it uses are held in a and b. The inputs on which a refutation rests are marked in
+// rests, where nothing is marked before.
+fn finish<'a>(
+    counts: &'a [u8],
+    symbols: usize,
+    literals: &'a [u8],
+    clauses: usize,
+    inputs: usize,
+    a: &[u16; LINES],
+    b: &[u16; LINES],
+    rests: &mut [bool; LINES],
+) -> Verdict
+    requires { ⌜ (clauses ≤ length (now literals)) × (clauses ≤ office .lines) ⌝ }
+    ensures { λ r.
+        ⌜ Finishes (now (counts .entry)) symbols (now (literals .entry)) clauses inputs (now (a .entry)) (now (b .entry))
+        (named (now (rests .entry))) r (named (now (rests .exit))) ⌝ }
 {
-    let rests = [false; LINES];
-    Answer { verdict, rests }
-}
-
-// All lines have passed. Of each step the parents that it uses are held in a and b.
-fn finish(state: HeldState, a: &[u16; LINES], b: &[u16; LINES]) -> Answer
-    requires { ⌜ state .clauses ≤ office .lines ⌝ }
-    ensures { λ r. ⌜ Finishes state (now (a .entry)) (now (b .entry)) r ⌝ }
-{
-    if !has_constant(table(&state.counts, state.symbols)) {
-        return plain(Verdict::Refused { number: 4, line: 0 });
+    if !constant_held(counts, symbols) {
+        return Verdict::Refused { number: 4, line: 0 };
     }
-    let count = state.clauses;
-    let inputs = state.inputs;
-    let first = first_empty(state);
+    let count = clauses;
+    let first = first_empty(literals, clauses);
     if first >= count {
-        return plain(Verdict::Open { count });
+        return Verdict::Open { count };
     }
-    let verdict = Verdict::Refuted { count, first };
-    let rests = rests(a, b, inputs, first);
-    Answer { verdict, rests }
+    *rests = descent::rests(a, b, inputs, first);
+    Verdict::Refuted { count, first }
 }
 
-// The lines one after the other, up to the first that fails. The state is written in place: a line moves none of it.
-fn read_on(text: &[u8], figures: Figures) -> Answer
-    requires { ⌜ (tooLarge figures (now text) ≡ false) × UpToOffice figures ⌝ }
-    ensures { λ r. ⌜ Answers figures (now (text .entry)) r ⌝ }
+// How far two texts reach: one byte further than a text may, where they are longer.
+fn reach(base: usize, job: usize) -> usize
+    requires { ⌜ base ≤ office .bytes ⌝ }
+    ensures { λ r. ⌜ r ≡ base + min job (office .bytes + 1) ⌝ }
 {
+    if job > BYTES {
+        return base + BYTES + 1;
+    }
+    base + job
+}
+
+// What fails where the base ends and the job begins, so many bytes and lines after the beginning: 4 where the base has no constant, 1 where
+// the two are too large together, or 0.
+fn seam(
+    figures: Figures,
+    counts: &[u8],
+    symbols: usize,
+    bytes: usize,
+    lines: usize,
+    job: &[u8],
+) -> usize
+    requires { ⌜ (bytes ≤ figures .bytes) × (lines ≤ figures .lines) ⌝ }
+    ensures { λ r. ⌜ r ≡ seamFailure figures (take symbols (now (counts .entry))) bytes lines (now (job .entry)) ⌝ }
+{
+    if !constant_held(counts, symbols) {
+        return 4;
+    }
+    let left = Figures {
+        bytes: figures.bytes - bytes,
+        lines: figures.lines - lines,
+        depth: figures.depth,
+    };
+    if too_large(job, left) { 1 } else { 0 }
+}
+
+// The lines of the base and then those of the job, one after the other, up to the first that fails. The state is written in place: a line
+// moves none of it. The inputs on which a refutation rests are marked in rests, where nothing is marked before.
+fn read_on<'a>(
+    base: &'a [u8],
+    job: &'a [u8],
+    figures: Figures,
+    rests: &mut [bool; LINES],
+) -> Verdict
+    requires { ⌜ (tooLarge figures (now base) ≡ false) × UpToOffice figures × (named (now rests) ≡ []) ⌝ }
+    ensures { λ r. ⌜ Answers figures (now (base .entry)) (now (job .entry)) r (named (now (rests .exit))) ⌝ }
+{
+    let whole = reach(base.len(), job.len());
     let mut state = fresh();
     let mut first_parents = [0u16; LINES];
     let mut second_parents = [0u16; LINES];
     let mut at = 0;
-    let mut line = 1;
-    while at < text.len() {
-        let end = line_end(text, at);
-        let bytes = ended(text, at, end);
+    let mut lines = 0;
+    while at < whole {
         let symbols = state.symbols;
+        if at == base.len() {
+            let number = seam(figures, &state.counts, symbols, at, lines, job);
+            if number != 0 {
+                return Verdict::Refused { number, line: 0 };
+            }
+        }
+        let bytes = first_line(part_at(base, job, at));
         let clauses = state.clauses;
         let inputs = state.inputs;
         let seen = see(figures, &state.counts, symbols, clauses, inputs, bytes);
@@ -211,9 +268,10 @@ fn read_on(text: &[u8], figures: Figures) -> Answer
         let a = held(state.starts[n], state.literals[n], state.widths[n]);
         let m = slot(l.b);
         let b = held(state.starts[m], state.literals[m], state.widths[m]);
-        let number = failing(figures.depth, text, clauses, a, b, bytes, seen);
+        let number = failing(figures.depth, base, job, clauses, a, b, bytes, seen);
+        let line = lines + 1;
         if number != 0 {
-            return plain(Verdict::Refused { number, line });
+            return Verdict::Refused { number, line };
         }
         let rule = l.rule;
         let used = used_parents(rule, l.a, l.b);
@@ -230,13 +288,58 @@ fn read_on(text: &[u8], figures: Figures) -> Answer
             state.clauses = clauses + 1;
             state.inputs = added.inputs;
         }
-        at = end + 1;
-        line += 1;
+        at += bytes.len() + 1;
+        lines = line;
     }
-    finish(state, &first_parents, &second_parents)
+    let clauses = state.clauses;
+    finish(
+        &state.counts,
+        state.symbols,
+        &state.literals,
+        clauses,
+        state.inputs,
+        &first_parents,
+        &second_parents,
+        rests,
+    )
 }
 
-// The answer to a text, and what it means.
+// The verdict on a base and a job: check 1 of the base, and then the lines. The inputs on which a refutation rests are marked in rests, where
+// nothing is marked before.
+fn verdict_on<'a>(
+    base: &'a [u8],
+    job: &'a [u8],
+    figures: Figures,
+    rests: &mut [bool; LINES],
+) -> Verdict
+    requires { ⌜ UpToOffice figures × (named (now rests) ≡ []) ⌝ }
+    ensures { λ r. ⌜ Answers figures (now (base .entry)) (now (job .entry)) r (named (now (rests .exit))) ⌝ }
+{
+    if too_large(base, figures) {
+        return Verdict::Refused { number: 1, line: 0 };
+    }
+    read_on(base, job, figures, rests)
+}
+
+// The answer to a base and a job, and what it means: that of the base, if it is refused, and otherwise that of the two in a row.
+pub fn check_job<'a>(base: &'a [u8], job: &'a [u8]) -> Answer
+    ensures { λ r. ⌜ r .verdict ≡ verdict office (jointly office (now (base .entry)) (now (job .entry))) ⌝ }
+    ensures { λ r. ⌜ named (r .rests) ≡ rests office (jointly office (now (base .entry)) (now (job .entry))) ⌝ }
+    ensures { λ r. ⌜ JobMeans office (now (base .entry)) (now (job .entry)) (r .verdict) (named (r .rests)) ⌝ }
+    ensures { λ r. ⌜ JobGuarantee office (now (base .entry)) (now (job .entry)) (r .verdict) (named (r .rests)) ⌝ }
+    ensures { λ _. ⌜ (now (base .exit) ≡ now (base .entry)) × (now (job .exit) ≡ now (job .entry)) ⌝ }
+{
+    let figures = Figures {
+        bytes: BYTES,
+        lines: LINES,
+        depth: DEPTH,
+    };
+    let mut rests = [false; LINES];
+    let verdict = verdict_on(base, job, figures, &mut rests);
+    Answer { verdict, rests }
+}
+
+// The answer to a text, and what it means: a base with no job.
 pub fn check(text: &[u8]) -> Answer
     ensures { λ r. ⌜ r .verdict ≡ verdict office (now (text .entry)) ⌝ }
     ensures { λ r. ⌜ named (r .rests) ≡ rests office (now (text .entry)) ⌝ }
@@ -244,13 +347,5 @@ pub fn check(text: &[u8]) -> Answer
     ensures { λ r. ⌜ Guarantee office (now (text .entry)) (r .verdict) (named (r .rests)) ⌝ }
     ensures { λ _. ⌜ now (text .exit) ≡ now (text .entry) ⌝ }
 {
-    let figures = Figures {
-        bytes: BYTES,
-        lines: LINES,
-        depth: DEPTH,
-    };
-    if too_large(text, figures) {
-        return plain(Verdict::Refused { number: 1, line: 0 });
-    }
-    read_on(text, figures)
+    check_job(text, &text[0..0])
 }

@@ -19,6 +19,17 @@ pub mod raw {
             rests: *mut u8,
             room: usize,
         ) -> u32;
+
+        pub fn fcheck_check_job(
+            base: *const u8,
+            base_length: usize,
+            job: *const u8,
+            job_length: usize,
+            first: *mut usize,
+            second: *mut usize,
+            rests: *mut u8,
+            room: usize,
+        ) -> u32;
     }
 }
 
@@ -46,20 +57,40 @@ pub enum Verdict {
 
 /// Checks a text.
 pub fn check(text: &[u8]) -> Answer {
-    let (mut first, mut second) = (0, 0);
-    let mut rests = [0; raw::CLAUSES];
+    let (text, length) = (text.as_ptr(), text.len());
     // SAFETY: the text is lent for the call, and the two numbers and the bytes are
     // apart from it and from each other.
-    let word = unsafe {
-        raw::fcheck_check(
-            text.as_ptr(),
-            text.len(),
-            &mut first,
-            &mut second,
-            rests.as_mut_ptr(),
-            rests.len(),
+    answer(|first, second, rests| unsafe {
+        raw::fcheck_check(text, length, first, second, rests.as_mut_ptr(), rests.len())
+    })
+}
+
+/// Checks a base and a job: where the base alone is refused, the answer is its
+/// own, and otherwise that of the base's bytes followed by the job's.
+pub fn check_job(base: &[u8], job: &[u8]) -> Answer {
+    let (base, base_length) = (base.as_ptr(), base.len());
+    let (job, job_length) = (job.as_ptr(), job.len());
+    // SAFETY: as above, for both parts.
+    answer(|first, second, rests| unsafe {
+        let (rests, room) = (rests.as_mut_ptr(), rests.len());
+        raw::fcheck_check_job(
+            base,
+            base_length,
+            job,
+            job_length,
+            first,
+            second,
+            rests,
+            room,
         )
-    };
+    })
+}
+
+/// The answer of a call, which leaves its numbers and marks the inputs.
+fn answer(call: impl FnOnce(&mut usize, &mut usize, &mut [u8]) -> u32) -> Answer {
+    let (mut first, mut second) = (0, 0);
+    let mut rests = [0; raw::CLAUSES];
+    let word = call(&mut first, &mut second, &mut rests);
     let verdict = verdict(word, first, second);
     // Only those of a refuted text are looked at.
     let clauses = match verdict {
@@ -85,7 +116,7 @@ fn verdict(word: u32, first: usize, second: usize) -> Verdict {
             number: first,
             line: second,
         },
-        other => unreachable!("fcheck_check answered {other}"),
+        other => unreachable!("the word is {other}"),
     }
 }
 

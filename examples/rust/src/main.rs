@@ -1,7 +1,9 @@
-//! Prints the answer to the text on standard input, through the static library.
-//! The exit status is 0 where the text is accepted, 1 where it is refused, and 2
-//! where standard input can't be read or the answer can't be written.
+//! Prints the answer to the text on standard input, through the static library;
+//! with an argument, that to the base in the file of that name and the job on
+//! standard input. The exit status is 0 where the text is accepted, 1 where it is
+//! refused, and 2 where something can't be read or the answer can't be written.
 
+use std::fs::File;
 use std::io::{self, Read, Write};
 use std::process::ExitCode;
 
@@ -21,11 +23,24 @@ fn main() -> ExitCode {
     }
 }
 
-/// Reads the text, prints its answer and gives its verdict.
+/// Reads the text, or the base and the job, prints the answer and gives its
+/// verdict.
 fn check() -> io::Result<Verdict> {
-    let mut text = Vec::new();
-    io::stdin().lock().take(ENOUGH).read_to_end(&mut text)?;
-    let answer = fcheck::check(&text);
+    let arguments: Vec<_> = std::env::args_os().skip(1).collect();
+    let answer = match &arguments[..] {
+        [] => fcheck::check(&read(io::stdin())?),
+        [base] => {
+            let base = read(File::open(base)?)?;
+            fcheck::check_job(&base, &read(io::stdin())?)
+        }
+        _ => return Err(io::Error::other("usage: check [BASE] < TEXT")),
+    };
     writeln!(io::stdout(), "{answer}")?;
     Ok(answer.verdict)
+}
+
+fn read(input: impl Read) -> io::Result<Vec<u8>> {
+    let mut text = Vec::new();
+    input.take(ENOUGH).read_to_end(&mut text)?;
+    Ok(text)
 }

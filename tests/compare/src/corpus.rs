@@ -424,9 +424,7 @@ impl Corpus {
     pub fn file(&self) -> Vec<u8> {
         let mut file = Vec::new();
         for text in &self.texts {
-            let length = text.len() as u32;
-            file.extend(length.to_le_bytes());
-            file.extend(text);
+            append(&mut file, text);
         }
         file
     }
@@ -444,6 +442,13 @@ fn spares_an_input(text: &[u8]) -> bool {
     let inputs = lines.filter(|line| line.starts_with(b"(in ")).count();
     let Answer { verdict, rests } = check(text);
     matches!(verdict, Verdict::Refuted { .. }) && rests.len() < inputs
+}
+
+/// Appends a text behind its length.
+pub(crate) fn append(file: &mut Vec<u8>, text: &[u8]) {
+    let length = text.len() as u32;
+    file.extend(length.to_le_bytes());
+    file.extend(text);
 }
 
 /// The texts of such a file.

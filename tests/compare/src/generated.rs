@@ -1,4 +1,4 @@
-//! Generated texts, run in parallel.
+//! Generated texts, or pairs of a base and a job, run in parallel.
 
 use std::sync::atomic::{AtomicU64, Ordering};
 use std::sync::mpsc::{self, RecvTimeoutError, Sender};
@@ -6,14 +6,60 @@ use std::sync::{Arc, Mutex};
 use std::thread;
 use std::time::{Duration, Instant};
 
+use second::generate::pairs::Pair;
 use second::generate::Sample;
-use second::{check, Verdict};
+use second::{check, check_job, Answer};
 
 use crate::coverage::Coverage;
 use crate::printed;
+use crate::sides::Sides;
 
 /// How often the workers are looked at.
 const LOOK: Duration = Duration::from_millis(100);
+
+/// What is run: a text, or a base and a job. Below both are called texts.
+pub trait Case: Send + 'static {
+    /// What a set of them covers.
+    type Coverage: Default;
+    /// The answer, where the generator knows it.
+    fn expected(&self) -> Option<&Answer>;
+    /// The second checker's answer.
+    fn second(&self) -> Answer;
+    /// Adds it, with its answer, to what is covered.
+    fn count(&self, answer: &Answer, coverage: &mut Self::Coverage);
+}
+
+impl Case for Sample {
+    type Coverage = Coverage;
+
+    fn expected(&self) -> Option<&Answer> {
+        self.expected.as_ref()
+    }
+
+    fn second(&self) -> Answer {
+        check(&self.text)
+    }
+
+    fn count(&self, answer: &Answer, coverage: &mut Coverage) {
+        coverage.add_as(&self.text, answer.verdict);
+    }
+}
+
+impl Case for Pair {
+    type Coverage = Sides;
+
+    fn expected(&self) -> Option<&Answer> {
+        self.expected.as_ref()
+    }
+
+    fn second(&self) -> Answer {
+        check_job(&self.base, &self.job)
+    }
+
+    fn count(&self, answer: &Answer, coverage: &mut Sides) {
+        coverage.add(&self.base, &self.job, answer);
+    }
+}
 
 /// Which texts are run, and how.
 #[derive(Clone, Copy, Debug)]
@@ -40,21 +86,21 @@ pub struct Difference {
 
 /// What came of a run.
 #[derive(Debug, Default)]
-pub struct Outcome {
+pub struct Outcome<C> {
     /// How many texts were run.
     pub texts: u64,
     /// In the order of the seeds.
     pub differences: Vec<Difference>,
-    /// Of all the texts, by the second checker's verdict.
-    pub coverage: Coverage,
+    /// Of all the texts, by the second checker's answer.
+    pub coverage: C,
     /// A seed whose text wasn't made and checked in time; the run ends there.
     pub late: Option<u64>,
 }
 
 /// What came of one text.
-struct Result {
-    text: Vec<u8>,
-    verdict: Verdict,
+struct Result<C> {
+    case: C,
+    answer: Answer,
     difference: Option<Difference>,
 }
 
@@ -63,10 +109,11 @@ type Work = Arc<Mutex<Option<(u64, Instant)>>>;
 
 /// Holds a program against the second checker, and both against what the
 /// generator expects, on the texts of some seeds.
-pub fn compare<G, P>(generate: G, program: P, run: Run) -> Outcome
+pub fn compare<C, G, P>(generate: G, program: P, run: Run) -> Outcome<C::Coverage>
 where
-    G: Fn(u64) -> Sample + Send + Sync + 'static,
-    P: Fn(&[u8]) -> Vec<u8> + Send + Sync + 'static,
+    C: Case,
+    G: Fn(u64) -> C + Send + Sync + 'static,
+    P: Fn(&C) -> Vec<u8> + Send + Sync + 'static,
 {
     let next = Arc::new(AtomicU64::new(0));
     let each = Arc::new(move |seed, work: &Work| one(&generate, &program, seed, work));
@@ -83,7 +130,11 @@ where
     let mut looked = Instant::now();
     loop {
         match receiver.recv_timeout(LOOK) {
-            Ok(result) => outcome.add(result),
+            Ok(result) => {
+                outcome.texts += 1;
+                result.case.count(&result.answer, &mut outcome.coverage);
+                outcome.differences.extend(result.difference);
+            }
             Err(RecvTimeoutError::Timeout) => {}
             Err(RecvTimeoutError::Disconnected) => break,
         }
@@ -105,7 +156,12 @@ where
 }
 
 /// Runs one text after another until there is none left or nobody listens.
-fn run_texts(run: Run, next: &AtomicU64, each: impl Fn(u64) -> Result, sender: &Sender<Result>) {
+fn run_texts<C: Case>(
+    run: Run,
+    next: &AtomicU64,
+    each: impl Fn(u64) -> Result<C>,
+    sender: &Sender<Result<C>>,
+) {
     loop {
         let index = next.fetch_add(1, Ordering::Relaxed);
         if index >= run.count || sender.send(each(run.seed.wrapping_add(index))).is_err() {
@@ -115,23 +171,23 @@ fn run_texts(run: Run, next: &AtomicU64, each: impl Fn(u64) -> Result, sender: &
 }
 
 /// Makes a text, has it checked by both, and compares.
-fn one(
-    generate: &impl Fn(u64) -> Sample,
-    program: &impl Fn(&[u8]) -> Vec<u8>,
+fn one<C: Case>(
+    generate: &impl Fn(u64) -> C,
+    program: &impl Fn(&C) -> Vec<u8>,
     seed: u64,
     work: &Work,
-) -> Result {
+) -> Result<C> {
     *work.lock().unwrap() = Some((seed, Instant::now()));
-    let Sample { text, expected } = generate(seed);
-    let answer = check(&text);
+    let case = generate(seed);
+    let answer = case.second();
     *work.lock().unwrap() = None;
     let second = printed(&answer);
-    let expected = expected.as_ref().map(printed);
-    let program = program(&text);
+    let expected = case.expected().map(printed);
+    let program = program(&case);
     let same = program == second && expected.as_ref().is_none_or(|answer| *answer == second);
     Result {
-        text,
-        verdict: answer.verdict,
+        case,
+        answer,
         difference: (!same).then_some(Difference {
             seed,
             program,
@@ -146,12 +202,4 @@ fn late(work: &Work, limit: Duration) -> Option<u64> {
     let work = *work.lock().ok()?;
     work.filter(|(_, since)| since.elapsed() > limit)
         .map(|(seed, _)| seed)
-}
-
-impl Outcome {
-    fn add(&mut self, result: Result) {
-        self.texts += 1;
-        self.coverage.add_as(&result.text, result.verdict);
-        self.differences.extend(result.difference);
-    }
 }

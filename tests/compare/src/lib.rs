@@ -4,15 +4,18 @@
 //! * [`examples`]: texts in a folder, each with its expected answer beside it;
 //! * [`generated`]: generated texts, whose answers come from the second checker;
 //! * [`coverage`]: what a set of texts covers;
-//! * [`corpus`]: the stored corpus;
-//! * [`made`]: texts of it that are made for an answer.
+//! * [`sides`]: what a set of pairs of a base and a job covers;
+//! * [`corpus`], [`pairs`]: the stored corpus, its texts and its pairs;
+//! * [`made`]: those of them that are made for an answer.
 
 pub mod corpus;
 pub mod coverage;
 pub mod examples;
 pub mod generated;
 pub mod made;
+pub mod pairs;
 pub mod program;
+pub mod sides;
 
 /// What the second checker answers, as it is printed.
 pub fn second_answer(text: &[u8]) -> Vec<u8> {

@@ -1,11 +1,13 @@
 //! Texts that are made for an answer: lines that fail two checks, steps that
 //! are right or wrong in one place, and refutations that rest on some inputs.
+//! Pairs of a base and a job too ([`jobs`]).
 //!
 //! They are written with capital letters for common terms, since no form has
 //! any: A, B, C are the constants 0, 1, 2, and X, Y the variables 0, 1. Symbol
 //! 3 takes one term, symbol 4 takes two.
 
 mod bare;
+pub mod jobs;
 mod lines;
 mod literals;
 mod rests;

@@ -1,12 +1,14 @@
 //! Runs the checker that is held against the second one.
 
-use std::fs::File;
+use std::ffi::OsStr;
+use std::fs::{self, File};
 use std::io::{self, Read, Write};
 use std::path::{Path, PathBuf};
-use std::process::{Child, Command, ExitStatus, Stdio};
+use std::process::{self, Child, Command, ExitStatus, Stdio};
+use std::sync::atomic::{AtomicU64, Ordering};
 use std::sync::mpsc;
-use std::thread;
 use std::time::{Duration, Instant};
+use std::{env, thread};
 
 /// So much of an output is read; an answer is shorter.
 const ENOUGH: u64 = 4_096;
@@ -14,7 +16,8 @@ const ENOUGH: u64 = 4_096;
 /// at again.
 const PAUSE: Duration = Duration::from_micros(50);
 
-/// The program, which reads a text on standard input and prints its answer.
+/// The program, which reads a text on standard input, or the job to a base that
+/// is named as its only argument, and prints the answer.
 #[derive(Clone, Debug)]
 pub struct Program {
     path: PathBuf,
@@ -41,8 +44,8 @@ impl Program {
     }
 
     /// What the program prints on a text, or how it failed.
-    pub fn answer(&self, text: &[u8]) -> io::Result<Vec<u8>> {
-        let mut child = self.spawn(Stdio::piped())?;
+    fn answer(&self, arguments: &[&OsStr], text: &[u8]) -> io::Result<Vec<u8>> {
+        let mut child = self.spawn(arguments, Stdio::piped())?;
         let mut input = child.stdin.take();
         let text = text.to_vec();
         // The program may stop reading before the text's end.
@@ -57,20 +60,56 @@ impl Program {
         Ok(output.answer)
     }
 
-    /// The answer, with a failure told in its place.
+    /// The answer to a text, with a failure told in its place.
     pub fn answer_or_failure(&self, text: &[u8]) -> Vec<u8> {
-        match self.answer(text) {
+        self.told(&[], text)
+    }
+
+    /// The answer to a base, which this file has, and a job, with a failure told
+    /// in its place.
+    pub fn job_answer_or_failure(&self, base: &Path, job: &[u8]) -> Vec<u8> {
+        self.told(&[base.as_os_str()], job)
+    }
+
+    /// The same, with the base written to a file for the time of the run.
+    pub fn pair_answer_or_failure(&self, base: &[u8], job: &[u8]) -> Vec<u8> {
+        static NUMBER: AtomicU64 = AtomicU64::new(0);
+        let number = NUMBER.fetch_add(1, Ordering::Relaxed);
+        let name = format!("compare-base-{}-{number}", process::id());
+        let file = env::temp_dir().join(name);
+        if let Err(error) = fs::write(&file, base) {
+            return format!("failed: {}: {error}", file.display()).into_bytes();
+        }
+        let answer = self.job_answer_or_failure(&file, job);
+        let _ = fs::remove_file(&file);
+        answer
+    }
+
+    fn told(&self, arguments: &[&OsStr], text: &[u8]) -> Vec<u8> {
+        match self.answer(arguments, text) {
             Ok(answer) => answer,
             Err(error) => format!("failed: {error}").into_bytes(),
         }
     }
 
-    /// Holds the program to what it does where standard input can't be read: a
-    /// message on standard error, no answer, and its exit status where that
-    /// tells. A folder can be opened and not read.
-    pub fn tells_failed_read(&self) -> io::Result<()> {
+    /// Holds the program to what it does where standard input can't be read: it
+    /// tells a failure. A folder can be opened and not read.
+    pub fn tells_failed_read(&self, base: Option<&Path>) -> io::Result<()> {
         let folder = File::open("/")?;
-        let child = self.spawn(folder.into())?;
+        let arguments: Vec<&OsStr> = base.into_iter().map(Path::as_os_str).collect();
+        self.tells_failure(&arguments, folder.into())
+    }
+
+    /// The same for arguments with which it can't do anything.
+    pub fn tells_wrong_arguments(&self, arguments: &[&Path]) -> io::Result<()> {
+        let arguments: Vec<&OsStr> = arguments.iter().map(|path| path.as_os_str()).collect();
+        self.tells_failure(&arguments, Stdio::null())
+    }
+
+    /// A message on standard error, no answer, and the exit status where that
+    /// tells.
+    fn tells_failure(&self, arguments: &[&OsStr], input: Stdio) -> io::Result<()> {
+        let child = self.spawn(arguments, input)?;
         let output = self.output(child, || Ok(()))?;
         let told = output.answer.is_empty() && !output.message.is_empty();
         if !told || (self.tells && output.status.code() != Some(2)) {
@@ -79,8 +118,14 @@ impl Program {
         Ok(())
     }
 
-    fn spawn(&self, input: Stdio) -> io::Result<Child> {
+    /// Whether its exit status tells the answer.
+    pub fn tells(&self) -> bool {
+        self.tells
+    }
+
+    fn spawn(&self, arguments: &[&OsStr], input: Stdio) -> io::Result<Child> {
         Command::new(&self.path)
+            .args(arguments)
             .stdin(input)
             .stdout(Stdio::piped())
             .stderr(Stdio::piped())

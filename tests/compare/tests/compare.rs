@@ -1,48 +1,16 @@
 //! The program `compare`, on the second checker itself and on wrong programs.
 
-use std::fs;
-use std::os::unix::fs::PermissionsExt;
-use std::path::{Path, PathBuf};
-use std::process::{Command, Output};
+mod common;
+
 use std::thread;
 use std::time::Duration;
 
+use common::{compare, folder, last_line, printed, script, COMPARE};
 use compare::generated::{self, Run};
 use compare::program::Program;
 use compare::second_answer;
 use second::generate::{sample, Sample};
 use second::Verdict;
-
-const COMPARE: &str = env!("CARGO_BIN_EXE_compare");
-
-/// A folder of a test's own.
-fn folder(name: &str) -> PathBuf {
-    let folder = Path::new(env!("CARGO_TARGET_TMPDIR")).join(name);
-    let _ = fs::remove_dir_all(&folder);
-    fs::create_dir_all(&folder).unwrap();
-    folder
-}
-
-/// A program made of shell commands, in which SECOND is the second checker.
-fn script(folder: &Path, commands: &str) -> String {
-    let path = folder.join("program");
-    let commands = commands.replace("SECOND", &format!("'{COMPARE}' --second"));
-    fs::write(&path, format!("#!/bin/sh\n{commands}\n")).unwrap();
-    fs::set_permissions(&path, fs::Permissions::from_mode(0o755)).unwrap();
-    path.to_str().unwrap().to_string()
-}
-
-fn compare(arguments: &[&str]) -> Output {
-    Command::new(COMPARE).args(arguments).output().unwrap()
-}
-
-fn printed(output: &Output) -> String {
-    String::from_utf8(output.stdout.clone()).unwrap()
-}
-
-fn last_line(output: &Output) -> String {
-    printed(output).lines().last().unwrap_or("").to_string()
-}
 
 #[test]
 fn the_second_checker_agrees_with_itself() {
@@ -109,6 +77,11 @@ fn the_seeds_and_a_table_of_rules_by_numbers_are_printed() {
     }
 }
 
+/// A right program.
+fn answer(sample: &Sample) -> Vec<u8> {
+    second_answer(&sample.text)
+}
+
 /// The texts of a few seeds, with time for each.
 const FEW: Run = Run {
     seed: 0,
@@ -123,9 +96,9 @@ fn what_the_generator_expects_is_compared() {
         expected: Some(Verdict::Open { count: 9_999 }.into()),
         ..sample(seed)
     };
-    let outcome = generated::compare(wrong, second_answer, FEW);
+    let outcome = generated::compare(wrong, answer, FEW);
     assert_eq!((outcome.texts, outcome.differences.len()), (40, 40));
-    let outcome = generated::compare(sample, second_answer, FEW);
+    let outcome = generated::compare(sample, answer, FEW);
     assert_eq!((outcome.texts, outcome.differences.len()), (40, 0));
     assert_eq!(outcome.late, None);
 }
@@ -139,13 +112,13 @@ fn a_generator_that_takes_too_long_or_panics_ends_the_run() {
         _ => sample(seed),
     };
     let limit = Duration::from_secs(2);
-    let outcome = generated::compare(slow, second_answer, Run { limit, ..FEW });
+    let outcome = generated::compare(slow, answer, Run { limit, ..FEW });
     assert_eq!(outcome.late, Some(7));
     let panics = |seed| match seed {
         7 => panic!("on purpose"),
         _ => sample(seed),
     };
-    let outcome = generated::compare(panics, second_answer, FEW);
+    let outcome = generated::compare(panics, answer, FEW);
     assert_eq!((outcome.texts, outcome.late), (39, Some(7)));
 }
 

@@ -5,7 +5,9 @@ use std::path::Path;
 
 use compare::corpus::{read_file, Corpus, LONGEST};
 use compare::coverage::Coverage;
-use compare::made::{made, refutations};
+use compare::made::{jobs, made, refutations};
+use compare::pairs::Pairs;
+use compare::sides;
 
 #[test]
 fn the_stored_corpus_is_complete_and_the_one_that_is_made() {
@@ -18,7 +20,20 @@ fn the_stored_corpus_is_complete_and_the_one_that_is_made() {
     assert_eq!(read_file(&file).as_deref(), Some(corpus.texts()));
     let stored = root.join("crates/corpus");
     assert!(fs::read(stored.join("data/corpus.bin")).unwrap() == file);
-    assert!(fs::read(stored.join("stdout")).unwrap() == corpus.answers());
+
+    let pairs = Pairs::make(&root.join("examples")).unwrap();
+    assert_eq!(pairs.missing(), Vec::<String>::new());
+    let file = pairs.file();
+    assert!(file.len() < 1_500_000);
+    let texts = read_file(&file).unwrap();
+    let read = texts
+        .chunks(2)
+        .map(|pair| (pair[0].clone(), pair[1].clone()));
+    assert_eq!(read.collect::<Vec<_>>(), pairs.pairs());
+    assert!(texts.iter().all(|text| text.len() <= LONGEST));
+    assert!(fs::read(stored.join("data/pairs.bin")).unwrap() == file);
+    let answers = [corpus.answers(), pairs.answers()].concat();
+    assert!(fs::read(stored.join("stdout")).unwrap() == answers);
 }
 
 #[test]
@@ -31,6 +46,34 @@ fn texts_get_the_answer_that_they_are_made_for() {
             "{text}"
         );
     }
+}
+
+#[test]
+fn pairs_get_the_answer_that_they_are_made_for() {
+    for made in jobs::pairs() {
+        let answer = second::check_job(&made.base, &made.job).to_string();
+        assert_eq!(answer, made.expected, "{:?}", (made.base, made.job));
+    }
+}
+
+#[test]
+fn what_goes_across_is_counted() {
+    let base = b"(sym 0)\n(in (or (+ (sub (f 0) (f 0)))))\n";
+    let job = b"(in (or (- (sub (f 0) (f 0)))))\n(by res 1 0 0 0 0 (let) (let) (or))\n";
+    let names = |job: &[u8]| sides::names(base, job, &second::check_job(base, job));
+    let all = [
+        sides::REFUTED,
+        sides::PARENTS,
+        "res with A in the job and B in the base",
+    ];
+    let all = [&all[..], &[sides::EMPTY_IN_JOB, sides::RESTS_ON_BOTH]].concat();
+    assert_eq!(names(job), all);
+    assert_eq!(names(b""), ["open"]);
+    assert_eq!(names(b"("), ["job refused by 2"]);
+    assert_eq!(
+        sides::names(b"", job, &second::check(b"")),
+        ["base refused by 4"]
+    );
 }
 
 #[test]

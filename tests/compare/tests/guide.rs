@@ -4,6 +4,7 @@
 use std::fs;
 use std::path::{Path, PathBuf};
 
+use compare::examples::{read_examples, read_job_examples};
 use compare::{second_answer, shown};
 use second::generate::model::{used_numbers, RULES};
 
@@ -12,10 +13,16 @@ fn root() -> PathBuf {
 }
 
 /// The example's text and its expected answer, the lines with a comma between.
+/// A base has the answer that it gets alone.
 fn example(name: &str) -> (String, String) {
     let path = root().join("examples").join(name);
     let read = |ending: &str| fs::read_to_string(path.with_extension(ending)).unwrap();
-    (read("flogic"), shown(read("answer").as_bytes()))
+    let text = read("flogic");
+    let answer = match name.ends_with("/base") {
+        true => second_answer(text.as_bytes()),
+        false => read("answer").into_bytes(),
+    };
+    (text, shown(&answer))
 }
 
 /// An answer as the guide writes it, without the marks around each line.
@@ -45,8 +52,27 @@ fn texts_are_quoted_as_they_are() {
         rest = after;
     }
     // C1, the inputs that are used, the rules, those for provers, the refusals
-    // but the first, the paper's proof, the survey. inh, inp and 9 have two.
-    assert_eq!(texts, 1 + 1 + (12 + 2) + 2 + (10 + 1) + 1 + 3);
+    // but the first, the paper's proof, the survey. inh, inp and 9 have two. A
+    // base and two jobs.
+    assert_eq!(texts, 1 + 1 + (12 + 2) + 2 + (10 + 1) + 1 + 3 + 3);
+}
+
+#[test]
+fn what_is_said_of_other_jobs_holds() {
+    let guide = fs::read_to_string(root().join("docs/GUIDE.md")).unwrap();
+    let guide = guide.replace('\n', " ");
+    for (name, start) in [
+        ("jobs/marks/refused-step", "in its fifth line, and gets `"),
+        ("jobs/marks/refused-sym", "refused-sym.flogic`, gets `"),
+        ("jobs/marks-wrong/lost", "and `lost` gets `"),
+        ("jobs/c13-empty/c01", "an empty base gets `"),
+    ] {
+        let (answer, _) = between(&guide, start, "`").unwrap();
+        assert_eq!(answer, example(name).1, "{name}");
+    }
+    let (base, _) = example("jobs/marks/base");
+    let (lines, _) = between(&guide, "The base has ", " lines and").unwrap();
+    assert_eq!(lines, base.lines().count().to_string());
 }
 
 #[test]
@@ -88,8 +114,10 @@ fn the_list_of_examples_has_each_with_its_answer() {
         names.push(name.to_string());
     }
     names.sort();
-    let examples = compare::examples::read_examples(&root().join("examples")).unwrap();
+    let examples = read_examples(&root().join("examples")).unwrap();
     let mut found: Vec<String> = examples.into_iter().map(|example| example.name).collect();
+    let jobs = read_job_examples(&root().join("examples/jobs")).unwrap();
+    found.extend(jobs.into_iter().map(|job| format!("jobs/{}", job.name)));
     found.sort();
     assert_eq!(names, found);
 }
@@ -124,7 +152,7 @@ fn statements_are_numbered_one_by_one() {
         assert_eq!((letter, number), next);
         last = (letter, number);
     }
-    assert_eq!(last, ('C', 12));
+    assert_eq!(last, ('C', 13));
 }
 
 #[test]
@@ -152,5 +180,27 @@ fn the_corners_of_the_text_form_have_the_examples_answers() {
     for corner in 1..=10 {
         let answer = &row(&format!("**C{corner}**"))[2];
         assert_eq!(*answer, example(&format!("c{corner:02}")).1, "C{corner}");
+    }
+}
+
+#[test]
+fn the_corner_of_a_base_and_a_job_has_the_examples_answers() {
+    let page = fs::read_to_string(root().join("docs/TEXT-FORM.md")).unwrap();
+    let corner = page.replace("\n  ", " ");
+    let corner = corner.lines().find(|line| line.starts_with("- **C13**"));
+    let corner = corner.unwrap();
+    let (whole, _) = example("c01");
+    let jobs = read_job_examples(&root().join("examples/jobs")).unwrap();
+    for job in jobs.iter().filter(|job| job.name.starts_with("c13-")) {
+        let (base, both) = (&job.base, [&job.base[..], &job.job].concat());
+        let answer = shown(&job.expected);
+        match (base.is_empty(), base.ends_with(b"\n")) {
+            (true, _) => assert!(corner.contains(&format!("an empty base gives {answer}"))),
+            (_, false) => assert!(corner.contains(&format!("line end gives {answer}"))),
+            _ => assert_eq!(
+                (both, answer),
+                (whole.clone().into_bytes(), example("c01").1)
+            ),
+        }
     }
 }

@@ -13,15 +13,16 @@ use crate::fault::Fault;
 use crate::path;
 
 /// The checker's files; its generator is left out.
-const FILES: [&str; 6] = [
+const FILES: [&str; 7] = [
     "descent.rs",
+    "job.rs",
     "lib.rs",
     "parser.rs",
     "reading.rs",
     "rules.rs",
     "syntax.rs",
 ];
-/// A copy that takes longer is ended; the corpus takes a tenth of a second.
+/// A copy that takes longer is ended; the corpus takes less than a second.
 const LIMIT: Duration = Duration::from_secs(20);
 
 /// Some copies in one program.
@@ -42,17 +43,18 @@ impl Batch {
             let what = fault.map_or("no fault", |fault| &fault.what);
             written.map_err(|e| format!("{what}: {e}"))?;
             modules += &format!("mod {name};\n");
-            calls += &format!("    |text| {name}::check(text).to_string(),\n");
+            calls += &format!("    (|text| {name}::check(text).to_string(), ");
+            calls += &format!("|base, job| {name}::check_job(base, job).to_string()),\n");
         }
         let count = faults.len();
-        let table = format!("const COPIES: [fn(&[u8]) -> String; {count}] = [\n{calls}];\n");
+        let table = format!("const COPIES: [Copy; {count}] = [\n{calls}];\n");
         let driver = include_str!("driver.rs");
         write_file(&folder, "main.rs", &(modules + &table + driver))?;
         Ok(Batch { folder })
     }
 
-    /// The answers of each copy to the corpus. One that ends early has fewer
-    /// than there are texts.
+    /// The answers of each copy to the corpus, its texts and then its pairs. One
+    /// that ends early has fewer than there are.
     pub fn answers(&self, count: usize) -> Result<Vec<Vec<String>>, String> {
         let program = build(&self.folder)?;
         let answers = (0..count).map(|index| run(&program, index)).collect();
@@ -114,6 +116,7 @@ fn run(program: &Path, index: usize) -> Result<Vec<String>, String> {
     let mut child = Command::new(program)
         .arg(index.to_string())
         .arg(path("crates/corpus/data/corpus.bin"))
+        .arg(path("crates/corpus/data/pairs.bin"))
         .stdout(Stdio::piped())
         .stderr(Stdio::null())
         .spawn()

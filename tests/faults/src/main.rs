@@ -19,8 +19,8 @@ const WORKERS: usize = 2;
 /// How many copies a program has.
 const BATCH: usize = 12;
 
-/// What a fault changes: the first text, counted from 1, its right answer and
-/// the copy's, and how many texts have another answer.
+/// What a fault changes: the first text or pair, counted from 1, the pairs behind
+/// the texts, its right answer and the copy's, and how many have another answer.
 struct Notice {
     texts: usize,
     first: usize,

@@ -2,12 +2,14 @@
 //!
 //! Each seed gives one text, always the same: a valid derivation, a web (a
 //! refutation by many steps that are used again), a text at or just past a
-//! limit, or a valid text that was damaged.
+//! limit, or a valid text that was damaged. [`pairs`] gives each seed a base and
+//! a job.
 
 pub mod damage;
 pub mod derive;
 pub mod limits;
 pub mod model;
+pub mod pairs;
 pub mod random;
 pub mod unify;
 

@@ -9,10 +9,12 @@
 //! * `reading`: what is held from line to line (checks 3 to 6);
 //! * `rules`: the twelve rules (checks 7 to 11);
 //! * `descent`: the inputs that a refutation rests on;
+//! * `job`: a text in two parts, a base and a job;
 //! * [`generate`]: the generator of test texts.
 
 mod descent;
 pub mod generate;
+mod job;
 mod parser;
 mod reading;
 mod rules;
@@ -21,6 +23,8 @@ pub mod syntax;
 use std::fmt;
 
 use reading::Reading;
+
+pub use job::check_job;
 
 /// "Limits, besides that depth: 65,535 bytes".
 pub const MAX_BYTES: usize = 65_535;
@@ -154,15 +158,22 @@ impl Check {
 /// "`Refused(number, line)`: the first failing line, its first failing
 /// check; the text is only read."
 pub fn check(text: &[u8]) -> Answer {
-    // Each piece keeps its line end; "Bytes after the last line end form one
-    // more line", which is then the only piece without one.
-    let lines = || text.split_inclusive(|&byte| byte == b'\n');
-
-    if text.len() > MAX_BYTES || lines().count() > MAX_LINES {
+    if text.len() > MAX_BYTES || lines(text).count() > MAX_LINES {
         return Check::Size.refuse(0);
     }
+    read(text)
+}
+
+/// The lines of a text. Each keeps its line end; "Bytes after the last line end
+/// form one more line", which is then the only one without.
+fn lines(text: &[u8]) -> impl Iterator<Item = &[u8]> {
+    text.split_inclusive(|&byte| byte == b'\n')
+}
+
+/// The answer to a text of a size that may be.
+fn read(text: &[u8]) -> Answer {
     let mut reading = Reading::default();
-    for (index, line) in lines().enumerate() {
+    for (index, line) in lines(text).enumerate() {
         if let Err(failed) = reading.read_line(line) {
             return failed.refuse(index + 1);
         }

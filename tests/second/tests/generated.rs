@@ -7,6 +7,7 @@ use std::time::Duration;
 
 use second::generate::limits::{limit_text, KINDS};
 use second::generate::model::{uses_first, Term, RULES};
+use second::generate::pairs::parents;
 use second::generate::random::Random;
 use second::generate::unify::Unifier;
 use second::generate::{generate, sample, valid_sample, web_sample};
@@ -116,7 +117,7 @@ fn uses(text: &[u8]) -> [[usize; 3]; 2] {
     times.push(1);
     for number in (0..=first).rev() {
         if times[number] > 0 {
-            for parent in parents(clauses[number]) {
+            for parent in parents(clauses[number].as_bytes()) {
                 times[parent] += 1;
             }
         }
@@ -125,18 +126,6 @@ fn uses(text: &[u8]) -> [[usize; 3]; 2] {
         counts[usize::from(clause.starts_with("(by "))][times.min(2)] += 1;
     }
     counts
-}
-
-/// The used parents of a line.
-fn parents(line: &str) -> Vec<usize> {
-    let words: Vec<&str> = line.split(' ').collect();
-    let places = match words[..2] {
-        ["(by", "refl"] | ["(in", _] => vec![],
-        ["(by", "fac" | "eli"] => vec![2],
-        _ => vec![2, 4],
-    };
-    let number = |place: usize| words[place].parse().unwrap();
-    places.into_iter().map(number).collect()
 }
 
 #[test]

@@ -4,7 +4,12 @@ use std::io::Write;
 use std::process::{Command, Output, Stdio};
 
 fn run(text: &[u8]) -> Output {
+    run_with(&[], text)
+}
+
+fn run_with(arguments: &[&str], text: &[u8]) -> Output {
     let mut child = Command::new(env!("CARGO_BIN_EXE_second"))
+        .args(arguments)
         .stdin(Stdio::piped())
         .stdout(Stdio::piped())
         .stderr(Stdio::piped())
@@ -36,6 +41,21 @@ fn stops_reading_past_the_limit() {
     assert_eq!(output.stdout, b"refused 1 0\n");
     let output = run(&vec![b'('; 65_535]);
     assert_eq!(output.stdout, b"refused 2 1\n");
+}
+
+#[test]
+fn a_file_that_is_named_is_the_base() {
+    let base = concat!(env!("CARGO_TARGET_TMPDIR"), "/base");
+    std::fs::write(base, "(sym 0)\n(in (or))\n").unwrap();
+    let output = run_with(&[base], b"(in (or))\n");
+    assert_eq!(output.stdout, b"refuted 2 0\nrests 0\n");
+    assert!(output.stderr.is_empty());
+    // Not there, not to be read, or two.
+    for arguments in [&["/no/such/file"][..], &["/"], &[base, base]] {
+        let output = run_with(arguments, b"");
+        assert_eq!(output.status.code(), Some(1), "{arguments:?}");
+        assert!(output.stdout.is_empty() && !output.stderr.is_empty());
+    }
 }
 
 #[test]

@@ -5,10 +5,10 @@ use Rattle.corpus.proofs.each.Statement.{statement}
 use Rattle.corpus.proofs.each.Tie as tie
 
 abbrev Inv-loop : tie.InvT-loop
-Inv-loop fd turns₀ turns = Unit {0}
+Inv-loop fd pairs turns₀ turns = Unit {0}
 
 abbrev μ-loop : tie.MeasureT-loop
-μ-loop fd turns₀ turns = turns
+μ-loop fd pairs turns₀ turns = turns
 
 pub each-spec : {M : Type 1} → statement M
 each-spec =

@@ -1,57 +1,99 @@
--- `verdict::read_on` meets its contract. The invariant: the place is reached, no more lines are read than bytes, and there is room for the
--- parents of a clause of each line. The measure is the bytes left.
-use Prim.Native.Nat.{ℕ, _+_, _≤_, _<_, _-_}
+-- `verdict::read_on` meets its contract. The invariant: the reading came to the place, and there is room for the parents of a clause of each
+-- line. The measure is the bytes left of both texts.
+use Prim.Native.Nat.{ℕ, _+_, _-_, _≤_, _<_}
+use mathlib.Core.List.{List}
 use mathlib.Core.Logic.{⊎-elim}
-use mathlib.Core.Path.{_≡_, ap, _∙_}
+use mathlib.Core.Path.{_≡_, sym, ap, _∙_}
 use denote.Ref.{now}
-use lib.ListN.{length, length-set, length-replicate}
+use lib.ListN.{length, take, length-set, length-replicate}
 use Rattle.text.specs.Figures.{office}
+use Rattle.text.specs.Size.{firstLine}
 use native.Mathlib.Omega.{arith}
-use borrow.Author.Tests.{not-true, not-false}
-use Rattle.verdict.proofs.Running.{Reached, LineRead, text-small, reached-first, line-number, line-added, line-parented, slot-below, held-of, held-within, line-stands, refused-answer, line-passed-end, clause-room, symbol-room, symbol-reached, clause-reached, reached-as, reached-end}
+use Rattle.verdict.specs.Running.{seamFailure}
+use Rattle.verdict.proofs.Running.{text-within, line-number, line-added, line-parented, slot-below, held-of, held-within}
+use Rattle.verdict.proofs.TwoTexts.{Came, Ahead, LineRead, part-some, came-first, came-ahead, came-end, came-as, seam-within, seam-refused, line-answer, line-stands, line-after, room-here, symbol-came, clause-came, symbol-room}
 use Rattle.verdict.proofs.read_on.Statement.{statement}
 use Rattle.verdict.proofs.read_on.Tie as tie
 
 abbrev Inv-loop : tie.InvT-loop
-Inv-loop text figures state₀ ps₀ qs₀ at₀ line₀ state ps qs at line =
-    (at ≤ length text) × (line ≤ at + 1) × (length ps ≡ office .lines) × (length qs ≡ office .lines) × Reached figures text at line state ps qs
+Inv-loop base job figures rests whole state₀ ps₀ qs₀ at₀ lines₀ state ps qs at lines =
+    (length ps ≡ office .lines) × (length qs ≡ office .lines) × Came figures base job at lines state ps qs
 
 abbrev μ-loop : tie.MeasureT-loop
-μ-loop text figures state₀ ps₀ qs₀ at₀ line₀ state ps qs at line = length text - at
+μ-loop base job figures rests whole state₀ ps₀ qs₀ at₀ lines₀ state ps qs at lines = length base + length job - at
 
 loop-holds : tie.Need-loop-holds Inv-loop μ-loop
 loop-holds c =
-    let p = c .before .before .pre in
-    (omega arith, omega arith, length-replicate {A = ℕ} (office .lines) 0, length-replicate {A = ℕ} (office .lines) 0, reached-first _ _ (p .1) (p .0) _ _ _ (c .fresh .ensures .1))
+    let p = c .before .before .before .before .pre in
+    (length-replicate {A = ℕ} (office .lines) 0, length-replicate {A = ℕ} (office .lines) 0, came-first _ _ _ (p .1) (p .0) _ _ _ (c .fresh .ensures .1))
 
-ended-requires : tie.Need-ended-requires Inv-loop μ-loop
-ended-requires c κs = (omega arith, c .line-end .ensures .0)
+-- The base is no longer than a text may be.
+reach-requires : tie.Need-reach-requires Inv-loop μ-loop
+reach-requires c κs =
+    let p = c .before .before .pre in
+    omega (arith, text-within _ _ (p .0) .0, p .1 .bytes)
+
+-- Where the base ends and the job begins.
+seam-requires : tie.Need-seam-requires Inv-loop μ-loop
+seam-requires c κs =
+    let d = c .before .before .before in
+    let l = d .before .before in
+    let p = l .before .before .before .before .before .pre in
+    seam-within _ _ _ (p .1) (p .0) (l .loop .inv .2) (d .if1 .taken)
+
+returns : tie.Need-returns Inv-loop μ-loop
+returns c =
+    let s = c .before in
+    let d = s .before .before .before .before in
+    let l = d .before .before in
+    let p = l .before .before .before .before .before .pre in
+    seam-refused _ _ _ (p .1) (p .0) (l .loop .inv .2) (d .if1 .taken) (s .seam .ensures) (c .if2 .taken) (p .2)
+
+-- A line is ahead.
+line-ahead : (c : tie.Joined1 Inv-loop μ-loop) →
+    let d = c .before .before in
+    let a = d .before .before .before .before .before .args in
+    Ahead (a .figures) (now (a .base)) (now (a .job)) (d .loop .at) (d .loop .lines) (d .loop .state) (d .loop .first-parents) (d .loop .second-parents)
+line-ahead c =
+    let d = c .before .before in
+    let a = d .before .before .before .before .before .args in
+    let p = d .before .before .before .before .before .pre in
+    let l = d .loop in
+    let n = seamFailure (a .figures) (take (l .state .symbols) (l .state .counts)) (l .at) (l .lines) (now (a .job)) in
+    came-ahead (a .figures) (now (a .base)) (now (a .job)) (p .1) (p .0) (l .inv .2) (λ q. ⊎-elim {C = n ≡ 0} (λ w. sym (w .4 .ensures) ∙ w .5 .left) (λ w. absurd (w .left q)) (c .if1 .came))
 
 -- The line as it was read.
 line-read : (c : tie.After-failing Inv-loop μ-loop) →
-    let d = c .before .before .before .before .before .before .before .before .before .before .before .before .before .before .before .before .before .before .before in
-    let a = d .before .before .before .args in
-    LineRead (a .figures) (now (a .text)) (d .loop .at) (d .loop .line) (d .loop .state) (d .loop .first-parents) (d .loop .second-parents) (c .before .before .before .before .before .before .before .before .before .before .before .before .see .result) (c .failing .result)
+    let see = c .before .before .before .before .before .before .before .before .before .before .before .before in
+    let line = see .before .before .before .before in
+    let d = line .before .before .before .before in
+    let a = d .before .before .before .before .before .args in
+    LineRead (a .figures) (now (a .base)) (now (a .job)) (d .loop .at) (d .loop .lines) (d .loop .state) (d .loop .first-parents) (d .loop .second-parents) (now (line .first-line .result)) (see .see .result) (c .failing .result)
 line-read c =
     let see = c .before .before .before .before .before .before .before .before .before .before .before .before in
-    let d = see .before .before .before .before .before .before .before in
-    let p = d .before .before .before .pre in
-    let h = see .before .before .before .before .before .before .loop-test .taken in
-    let P = d .loop .inv .4 in
+    let line = see .before .before .before .before in
+    let j = line .before .before in
+    let d = j .before .before in
+    let a = d .before .before .before .before .before .args in
+    let p = d .before .before .before .before .before .pre in
+    let A = line-ahead j in
+    let P = A .reached in
     let s = see .see .result in
+    let some = part-some (now (a .base)) (now (a .job)) (d .loop .at) (office .bytes + 1) (omega (arith, d .before .before .reach .ensures, j .before .loop-test .taken)) in
     let ha = held-of (d .loop .state) (s .line .a) (held-within P) (c .before .before .before .before .before .before .before .before .before .before .slot .ensures) (c .before .before .before .before .before .before .held .ensures) in
     let hb = held-of (d .loop .state) (s .line .b) (held-within P) (c .before .before .before .before .before .slot2 .ensures) (c .before .held2 .ensures) in
-    let e = see .before .before .before .before .ended .ensures in
+    let e : now (line .first-line .result) ≡ firstLine (A .rest) = line .first-line .ensures ∙ ap firstLine (line .before .part-at .ensures .0 ∙ sym (A .stage .1)) in
     let S = see .see .ensures .1 .0 in
     let n = line-number P e s S _ _ ha hb _ (c .failing .ensures) in
-    let m = text-small _ _ (p .1) (p .0) in
     record {
-      here = h;
-      small = m;
-      reached = P;
+      figures = p .1;
+      small = p .0;
+      some = some;
+      ahead = A;
+      is = e;
       number = n;
-      added = λ z a A. line-added P e s S n z (line-stands P h m n z) a A;
-      parents = λ z p g. line-parented P e s S n z (clause-room P h m n) p g (d .loop .inv .2) (d .loop .inv .3);
+      added = λ z x X. line-added P e s S n z (line-stands _ _ _ (p .1) (p .0) A some n z) x X;
+      parents = λ z x g. line-parented P e s S n z (room-here _ _ _ (p .1) (p .0) A some n) x g (d .loop .inv .0) (d .loop .inv .1);
     }
 
 mul-held : tie.Need-mul-held Inv-loop μ-loop
@@ -78,94 +120,103 @@ element-copy-out-held-5 c = omega (arith, slot-below _ (c .before .slot2 .ensure
 element-copy-out-held-6 : tie.Need-element-copy-out-held-6 Inv-loop μ-loop
 element-copy-out-held-6 c = omega (arith, slot-below _ (c .before .before .slot2 .ensures))
 
-returns : tie.Need-returns Inv-loop μ-loop
-returns c =
-    let r = line-read (c .before .before) in
-    refused-answer (r .reached) (r .here) (r .small) (r .number) (c .before .if1 .taken) _ (c .plain .ensures .0) (c .plain .ensures .1)
+-- There are no more lines than the figures allow.
+add-line : tie.Need-add-line Inv-loop μ-loop
+add-line c = let P = line-read c .ahead .reached in omega (arith, P .counted, P .few)
 
--- There is room for the parents of a clause.
-parents-room : (c : tie.After-used-parents Inv-loop μ-loop) →
-    c .before .before .before .before .before .before .before .before .before .before .before .before .before .before .before .before .before .before .before .before .before .loop .state .clauses < office .lines
-parents-room c = let r = line-read (c .before .before) in clause-room (r .reached) (r .here) (r .small) (r .number)
+returns-2 : tie.Need-returns-2 Inv-loop μ-loop
+returns-2 c =
+    let r = line-read (c .before) in
+    let d = c .before .before .before .before .before .before .before .before .before .before .before .before .before .before .before .before .before .before .before .before .before in
+    line-answer _ _ _ (r .figures) (r .small) (r .ahead) (r .some) (r .number) (c .if3 .taken) (d .before .before .before .before .before .pre .2)
+
+-- There is room for a clause more.
+clause-fits : (c : tie.After-failing Inv-loop μ-loop) →
+    c .before .before .before .before .before .before .before .before .before .before .before .before .before .before .before .before .before .before .before .before .loop .state .clauses < office .lines
+clause-fits c = let r = line-read c in room-here _ _ _ (r .figures) (r .small) (r .ahead) (r .some) (r .number)
 
 element-write-state : tie.Need-element-write-state Inv-loop μ-loop
 element-write-state c =
-    let z = c .before .before .before .if1 .left in
+    let z = c .before .before .before .if3 .left in
     let r = line-read (c .before .before .before .before) in
-    symbol-room (r .reached) (r .here) (r .small) (r .number) _ z (r .added z _ (c .before .adds .ensures .1)) (r .parents z _ (c .before .before .used-parents .ensures)) (c .if2 .taken)
+    symbol-room _ _ _ (r .figures) (r .small) (r .ahead) (r .some) (r .number) _ z (r .added z _ (c .before .adds .ensures .1)) (r .parents z _ (c .before .before .used-parents .ensures)) (c .if4 .taken)
 
 add-state : tie.Need-add-state Inv-loop μ-loop
 add-state c = let h = element-write-state c in omega arith
 
 mul-state : tie.Need-mul-state Inv-loop μ-loop
-mul-state c = let r = line-read (c .before .before .before .before) in omega (arith, clause-room (r .reached) (r .here) (r .small) (r .number))
+mul-state c = omega (arith, clause-fits (c .before .before .before .before))
 
 element-write-state-2 : tie.Need-element-write-state-2 Inv-loop μ-loop
-element-write-state-2 c = let r = line-read (c .before .before .before .before) in omega (arith, clause-room (r .reached) (r .here) (r .small) (r .number))
+element-write-state-2 c = omega (arith, clause-fits (c .before .before .before .before))
 
 element-write-state-3 : tie.Need-element-write-state-3 Inv-loop μ-loop
-element-write-state-3 c = let r = line-read (c .before .before .before .before) in omega (arith, clause-room (r .reached) (r .here) (r .small) (r .number))
+element-write-state-3 c = omega (arith, clause-fits (c .before .before .before .before))
 
 element-write-state-4 : tie.Need-element-write-state-4 Inv-loop μ-loop
-element-write-state-4 c = let r = line-read (c .before .before .before .before) in omega (arith, clause-room (r .reached) (r .here) (r .small) (r .number))
+element-write-state-4 c = omega (arith, clause-fits (c .before .before .before .before))
 
 add-state-2 : tie.Need-add-state-2 Inv-loop μ-loop
-add-state-2 c = let r = line-read (c .before .before .before .before) in omega (arith, clause-room (r .reached) (r .here) (r .small) (r .number))
+add-state-2 c = omega (arith, clause-fits (c .before .before .before .before))
+
+-- The place after the line.
+next-place : (c : tie.Joined4 Inv-loop μ-loop) →
+    let line = c .before .before .before .before .before .before .before .before .before .before .before .before .before .before .before .before .before .before .before .before in
+    let d = line .before .before .before .before in
+    let a = d .before .before .before .before .before .args in
+    let n = d .loop .at + (length (now (line .first-line .result)) + 1) in
+    (n ≤ length (now (a .base)) + length (now (a .job))) × (n ≤ office .bytes)
+next-place c =
+    let r = line-read (c .before .before .before .before) in
+    let z = c .before .before .before .if3 .left in
+    let w = line-after _ _ _ (r .figures) (r .small) (r .ahead) (r .some) (r .number) z in
+    (omega (arith, w .0, ap length (r .is)), omega (arith, w .1, ap length (r .is)))
 
 add-at : tie.Need-add-at Inv-loop μ-loop
-add-at c =
-    let g = c .before .before .before .before in
-    let l = g .before .before .before .before .before .before .before .before .before .before .before .before .before .before .before .before .before .before .before .loop in
-    let r = line-read g in
-    let z = c .before .before .before .if1 .left in
-    let e = line-passed-end (r .reached) (r .here) (r .small) (r .number) z in
-    omega (arith, r .small, e .1, g .before .before .before .before .before .before .before .before .before .before .before .before .before .before .before .before .before .line-end .ensures .0)
+add-at c = omega (arith, next-place c .1)
 
-add-line : tie.Need-add-line Inv-loop μ-loop
-add-line c =
-    let g = c .before .before .before .before in
-    let l = g .before .before .before .before .before .before .before .before .before .before .before .before .before .before .before .before .before .before .before .loop in
-    let r = line-read g in
-    let z = c .before .before .before .if1 .left in
-    let e = line-passed-end (r .reached) (r .here) (r .small) (r .number) z in
-    omega (arith, r .small, e .0, e .1, l .inv .0, l .inv .1)
+add-at-2 : tie.Need-add-at-2 Inv-loop μ-loop
+add-at-2 c = omega (arith, next-place c .1)
 
 loop-less : tie.Need-loop-less Inv-loop μ-loop
-loop-less c =
-    let g = c .before .before .before .before in
-    let l = g .before .before .before .before .before .before .before .before .before .before .before .before .before .before .before .before .before .before .before .loop in
-    let r = line-read g in
-    let z = c .before .before .before .if1 .left in
-    let e = line-passed-end (r .reached) (r .here) (r .small) (r .number) z in
-    omega (arith, e .0, e .1, g .before .before .before .before .before .before .before .before .before .before .before .before .before .before .before .before .before .line-end .ensures .0)
+loop-less c = omega (arith, next-place c .0)
 
 loop-again : tie.Need-loop-again Inv-loop μ-loop
 loop-again c =
     let g = c .before .before .before .before in
-    let l = g .before .before .before .before .before .before .before .before .before .before .before .before .before .before .before .before .before .before .before .loop in
+    let line = g .before .before .before .before .before .before .before .before .before .before .before .before .before .before .before .before in
+    let l = line .before .before .before .before .loop in
     let r = line-read g in
-    let z = c .before .before .before .if1 .left in
-    let e = line-passed-end (r .reached) (r .here) (r .small) (r .number) z in
+    let z = c .before .before .before .if3 .left in
     let A = r .added z _ (c .before .adds .ensures .1) in
     let B = r .parents z _ (c .before .before .used-parents .ensures) in
-    let q = ap (λ n. n + 1) (g .before .before .before .before .before .before .before .before .before .before .before .before .before .before .before .before .before .line-end .ensures .0) in (
-      omega (arith, e .1, g .before .before .before .before .before .before .before .before .before .before .before .before .before .before .before .before .before .line-end .ensures .0),
-      omega (arith, e .0, l .inv .1, g .before .before .before .before .before .before .before .before .before .before .before .before .before .before .before .before .before .line-end .ensures .0),
-      length-set (l .first-parents) _ _ ∙ l .inv .2,
-      length-set (l .second-parents) _ _ ∙ l .inv .3,
+    let q = ap (λ (x : List ℕ). l .at + (length x + 1)) (r .is) in (
+      length-set (l .first-parents) _ _ ∙ l .inv .0,
+      length-set (l .second-parents) _ _ ∙ l .inv .1,
       ⊎-elim
-          (λ w. reached-as (symbol-reached (r .reached) (r .here) (r .small) (r .number) _ z A B (w .0 .taken)) q (w .1))
-          (λ w. reached-as (clause-reached (r .reached) (r .here) (r .small) (r .number) _ z A B (w .0 .left)) q (w .1))
-          (c .if2 .came),
+          (λ w. came-as (symbol-came _ _ _ (r .figures) (r .small) (r .ahead) (r .some) (r .number) _ z A B (w .0 .taken)) q (w .1))
+          (λ w. came-as (clause-came _ _ _ (r .figures) (r .small) (r .ahead) (r .some) (r .number) _ z A B (w .0 .left)) q (w .1))
+          (c .if4 .came),
     )
 
 finish-requires : tie.Need-finish-requires Inv-loop μ-loop
-finish-requires c κs = held-within (c .before .before .before .loop .inv .4)
+finish-requires c κs =
+    let P = c .before .before .before .before .before .before .before .before .before .loop .inv .2 .reached in
+    let h = held-within P in
+    (omega (arith, h, P .holds .literals-room), h)
 
-returns-2 : tie.Need-returns-2 Inv-loop μ-loop
-returns-2 c = reached-end (c .before .before .before .before .loop .inv .4) (omega arith) _ (c .finish .ensures)
+returns-3 : tie.Need-returns-3 Inv-loop μ-loop
+returns-3 c =
+    let e = c .before .before .before .before .before .before .before .before .before in
+    let l = e .before in
+    let p = l .before .before .before .before .before .pre in
+    came-end _ _ _ (p .1) (p .0) (l .loop .inv .2) (omega (arith, l .before .before .reach .ensures, e .loop-test .left)) _ _ _ (c .finish .ensures) (p .2)
 
 pub read-on-spec : {M : Type 1} → statement M
 read-on-spec =
     tie.close (tie.spec
-    Inv-loop μ-loop (λ c κs. tt) loop-holds (λ c κs. tt) ended-requires (λ c κs. tt) (λ c κs. tt) mul-held element-copy-out-held element-copy-out-held-2 element-copy-out-held-3 (λ c κs. tt) (λ c κs. tt) mul-held-2 element-copy-out-held-4 element-copy-out-held-5 element-copy-out-held-6 (λ c κs. tt) (λ c κs. tt) (λ c κs. tt) returns (λ c κs. tt) (λ c. omega (arith, parents-room c)) (λ c. omega (arith, parents-room c)) (λ c. omega (arith, parents-room c)) (λ c. omega (arith, parents-room c)) (λ c κs. tt) element-write-state add-state mul-state element-write-state-2 element-write-state-3 element-write-state-4 add-state-2 add-at add-line loop-less loop-again finish-requires returns-2)
+    Inv-loop μ-loop reach-requires (λ c κs. tt) loop-holds seam-requires returns (λ c κs. tt) (λ c κs. tt) (λ c κs. tt) (λ c κs. tt)
+    mul-held element-copy-out-held element-copy-out-held-2 element-copy-out-held-3 (λ c κs. tt) (λ c κs. tt)
+    mul-held-2 element-copy-out-held-4 element-copy-out-held-5 element-copy-out-held-6 (λ c κs. tt) (λ c κs. tt) add-line returns-2 (λ c κs. tt)
+    (λ c. omega (arith, clause-fits (c .before .before))) (λ c. omega (arith, clause-fits (c .before .before))) (λ c. omega (arith, clause-fits (c .before .before))) (λ c. omega (arith, clause-fits (c .before .before)))
+    (λ c κs. tt) element-write-state add-state mul-state element-write-state-2 element-write-state-3 element-write-state-4 add-state-2 add-at add-at-2 loop-less loop-again finish-requires returns-3)

@@ -1,25 +1,32 @@
 //! Holds a checker, run as a program, against the second checker.
 
+use std::fmt::Display;
+use std::fs::File;
 use std::io::{self, Read, Write};
-use std::path::Path;
+use std::path::{Path, PathBuf};
 use std::process::ExitCode;
 use std::time::Duration;
 
-use compare::examples::{read_examples, write_example, Example};
-use compare::generated::{self, Difference, Run};
+use compare::examples::{read_examples, read_job_examples, write_example, write_job, Example};
+use compare::generated::{self, Case, Difference, Run};
 use compare::program::Program;
-use compare::{second_answer, shown};
-use second::generate::{generate, sample};
+use compare::{printed, second_answer, shown};
+use second::generate::pairs::{pair, Pair};
+use second::generate::{sample, Sample};
 
 const USAGE: &str = "\
 usage: compare [--status] FCHECK COUNT SEED [KEEP_DIR]   the texts of COUNT seeds from SEED on
        compare [--status] FCHECK --examples DIR   the texts DIR/*.flogic, against DIR/*.answer
-       compare --second   the second checker itself, on standard input
-FCHECK is a program that reads a text on standard input and prints its answer. With --status its
-exit status is 0 where the text is accepted, 1 where it is refused and 2 after a failed read;
-without, it is 0 after every text. The texts of the first differences are kept in KEEP_DIR
-(target/compare).";
+       compare [--status] FJOB --jobs COUNT SEED [KEEP_DIR]   the pairs of COUNT seeds
+       compare [--status] FJOB --job-examples DIR   the jobs DIR/*/*.flogic to DIR/*/base.flogic
+       compare --second [BASE]   the second checker itself, on standard input
+FCHECK is a program that reads a text on standard input and prints its answer; FJOB one that reads
+a base from the file that is named and its job on standard input. With --status the exit status is
+0 where the text is accepted, 1 where it is refused and 2 where something can't be read; without,
+it is 0 after every text. The texts of the first differences are kept in KEEP_DIR (target/compare).";
 
+/// Where texts are kept.
+const KEEP: &str = "target/compare";
 /// How many differences are printed and kept.
 const SHOWN: usize = 10;
 /// How many texts are run at a time.
@@ -57,17 +64,29 @@ fn run(arguments: &[String]) -> Result<Option<Count>, String> {
         rest => (false, rest),
     };
     let count = match *arguments {
-        ["--second"] => return second().map_err(tell).map(|()| None),
+        ["--second"] => return second(None).map_err(tell).map(|()| None),
+        ["--second", base] => return second(Some(base)).map_err(tell).map(|()| None),
         [program, "--examples", folder] | ["--examples", folder, program] => {
             run_examples(&open(program, tells)?, Path::new(folder))
         }
+        [program, "--job-examples", folder] => {
+            run_job_examples(&open(program, tells)?, Path::new(folder))
+        }
+        [program, "--jobs", count, seed] => {
+            let program = open(program, tells)?;
+            run_generated(&PAIRS, program, number(count)?, number(seed)?, KEEP)
+        }
+        [program, "--jobs", count, seed, keep] => {
+            let program = open(program, tells)?;
+            run_generated(&PAIRS, program, number(count)?, number(seed)?, keep)
+        }
         [program, count, seed] => {
-            let keep = Path::new("target/compare");
-            run_generated(open(program, tells)?, number(count)?, number(seed)?, keep)
+            let program = open(program, tells)?;
+            run_generated(&TEXTS, program, number(count)?, number(seed)?, KEEP)
         }
         [program, count, seed, keep] => {
-            let keep = Path::new(keep);
-            run_generated(open(program, tells)?, number(count)?, number(seed)?, keep)
+            let program = open(program, tells)?;
+            run_generated(&TEXTS, program, number(count)?, number(seed)?, keep)
         }
         _ => return Err(USAGE.into()),
     };
@@ -85,28 +104,81 @@ fn number(argument: &str) -> Result<u64, String> {
 }
 
 /// The second checker as a program, to try this one on.
-fn second() -> io::Result<()> {
-    let mut text = Vec::new();
-    let enough = second::MAX_BYTES as u64 + 1;
-    io::stdin().lock().take(enough).read_to_end(&mut text)?;
-    io::stdout().write_all(&second_answer(&text))
+fn second(base: Option<&str>) -> io::Result<()> {
+    let answer = match base {
+        None => second_answer(&some(io::stdin())?),
+        Some(base) => {
+            let base = some(File::open(base)?)?;
+            printed(&second::check_job(&base, &some(io::stdin())?))
+        }
+    };
+    io::stdout().write_all(&answer)
 }
 
-fn run_generated(program: Program, count: u64, seed: u64, keep: &Path) -> io::Result<Count> {
+/// One byte above the limit is enough to see that a text has too many.
+fn some(input: impl Read) -> io::Result<Vec<u8>> {
+    let mut text = Vec::new();
+    let enough = second::MAX_BYTES as u64 + 1;
+    input.take(enough).read_to_end(&mut text)?;
+    Ok(text)
+}
+
+/// What is generated: how it is made, run and kept.
+struct Kind<C> {
+    make: fn(u64) -> C,
+    run: fn(&Program, &C) -> Vec<u8>,
+    keep: fn(&Path, &Difference) -> io::Result<PathBuf>,
+}
+
+const TEXTS: Kind<Sample> = Kind {
+    make: sample,
+    run: |program, sample| program.answer_or_failure(&sample.text),
+    keep: |folder, difference| {
+        let example = Example {
+            name: format!("seed-{}", difference.seed),
+            text: sample(difference.seed).text,
+            expected: difference.second.clone(),
+        };
+        write_example(folder, &example)
+    },
+};
+
+const PAIRS: Kind<Pair> = Kind {
+    make: pair,
+    run: |program, pair| program.pair_answer_or_failure(&pair.base, &pair.job),
+    keep: |folder, difference| {
+        let Pair { base, job, .. } = pair(difference.seed);
+        let folder = folder.join(format!("pair-{}", difference.seed));
+        write_job(&folder, &base, &job, &difference.second)
+    },
+};
+
+fn run_generated<C>(
+    kind: &Kind<C>,
+    program: Program,
+    count: u64,
+    seed: u64,
+    keep: &str,
+) -> io::Result<Count>
+where
+    C: Case<Coverage: Display>,
+{
     if count == 0 {
-        return Err(io::Error::other("no text"));
+        return Err(io::Error::other("nothing to run"));
     }
     println!("seeds {seed} to {}", seed.wrapping_add(count - 1));
-    let run = Run {
+    let options = Run {
         seed,
         count,
         workers: WORKERS,
         limit: LIMIT,
     };
-    let answer = move |text: &[u8]| program.answer_or_failure(text);
-    let outcome = generated::compare(sample, answer, run);
+    let run = kind.run;
+    let answer = move |case: &C| run(&program, case);
+    let outcome = generated::compare(kind.make, answer, options);
     for difference in outcome.differences.iter().take(SHOWN) {
-        keep_and_print(difference, keep)?;
+        let path = (kind.keep)(Path::new(keep), difference)?;
+        print_difference(difference, &path);
     }
     print!("{}", outcome.coverage);
     if let Some(seed) = outcome.late {
@@ -119,20 +191,13 @@ fn run_generated(program: Program, count: u64, seed: u64, keep: &Path) -> io::Re
     Ok(Count { passed, failed })
 }
 
-fn keep_and_print(difference: &Difference, keep: &Path) -> io::Result<()> {
-    let example = Example {
-        name: format!("seed-{}", difference.seed),
-        text: generate(difference.seed),
-        expected: difference.second.clone(),
-    };
-    let path = write_example(keep, &example)?;
+fn print_difference(difference: &Difference, path: &Path) {
     println!("seed {}: {}", difference.seed, path.display());
     println!("  program:   {}", shown(&difference.program));
     println!("  second:    {}", shown(&difference.second));
     if let Some(expected) = &difference.expected {
         println!("  generator: {}", shown(expected));
     }
-    Ok(())
 }
 
 /// Each example's expected answer must be the second checker's too. A failed
@@ -142,23 +207,65 @@ fn run_examples(program: &Program, folder: &Path) -> io::Result<Count> {
     for example in read_examples(folder)? {
         let answer = program.answer_or_failure(&example.text);
         let second = second_answer(&example.text);
-        if answer == example.expected && second == example.expected {
-            count.passed += 1;
-            continue;
-        }
-        count.failed += 1;
-        println!("{}", example.name);
-        println!("  expected: {}", shown(&example.expected));
-        println!("  program:  {}", shown(&answer));
-        println!("  second:   {}", shown(&second));
+        count.add_example(&example.name, &example.expected, &answer, &second);
     }
-    match program.tells_failed_read() {
-        Ok(()) => count.passed += 1,
-        Err(error) => {
-            count.failed += 1;
-            println!("standard input that can't be read");
-            println!("  program:  {error}");
-        }
+    count.add_failure(FAILED_READ, program.tells_failed_read(None));
+    Ok(count)
+}
+
+/// The same for jobs. A base that isn't there, one that can't be read and wrong
+/// numbers of arguments are others; without its base a program whose exit status
+/// tells reads a text.
+fn run_job_examples(program: &Program, folder: &Path) -> io::Result<Count> {
+    let mut count = Count::default();
+    let examples = read_job_examples(folder)?;
+    for example in &examples {
+        let answer = program.job_answer_or_failure(&example.base_path, &example.job);
+        let second = printed(&second::check_job(&example.base, &example.job));
+        count.add_example(&example.name, &example.expected, &answer, &second);
+    }
+    let base = examples[0].base_path.as_path();
+    count.add_failure(FAILED_READ, program.tells_failed_read(Some(base)));
+    let missing = folder.join("no-such-folder/base.flogic");
+    let wrong: [(&str, &[&Path]); 4] = [
+        ("a base that isn't there", &[&missing]),
+        ("a base that can't be read", &[folder]),
+        ("two bases", &[base, base]),
+        ("no base", &[]),
+    ];
+    let most = if program.tells() { 3 } else { 4 };
+    for (what, arguments) in &wrong[..most] {
+        count.add_failure(what, program.tells_wrong_arguments(arguments));
     }
     Ok(count)
+}
+
+const FAILED_READ: &str = "standard input that can't be read";
+
+impl Count {
+    /// Counts an example, and prints it where it fails.
+    fn add_example(&mut self, name: &str, expected: &[u8], answer: &[u8], second: &[u8]) {
+        if answer == expected && second == expected {
+            self.passed += 1;
+            return;
+        }
+        self.failed += 1;
+        println!("{name}");
+        println!("  expected: {}", shown(expected));
+        println!("  program:  {}", shown(answer));
+        println!("  second:   {}", shown(second));
+    }
+
+    /// Counts a failure that the program has to tell, and prints it where it
+    /// doesn't.
+    fn add_failure(&mut self, what: &str, told: io::Result<()>) {
+        match told {
+            Ok(()) => self.passed += 1,
+            Err(error) => {
+                self.failed += 1;
+                println!("{what}");
+                println!("  program:  {error}");
+            }
+        }
+    }
 }

@@ -15,7 +15,7 @@ const REFUTING: &str = "eli 0 0 0 0 0 (let) (let) (or)";
 /// Inputs, and steps that end in the empty clause, their only one. They use all
 /// the inputs but those that are named.
 #[derive(Clone)]
-struct Refutation {
+pub(super) struct Refutation {
     inputs: Vec<String>,
     steps: Vec<String>,
     unused: Vec<usize>,
@@ -57,7 +57,7 @@ impl Refutation {
     }
 
     /// The text, made for the inputs that are used.
-    fn made(&self) -> Made {
+    pub(super) fn made(&self) -> Made {
         let used = (0..self.inputs.len()).filter(|number| !self.unused.contains(number));
         self.made_for(self.inputs.len() + self.steps.len() - 1, used)
     }
@@ -88,18 +88,37 @@ fn refuted(count: usize, first: usize, rests: impl IntoIterator<Item = usize>) -
 /// A step after a clause was put in: used parents from that number on are one
 /// further.
 fn shifted(step: &str, from: usize) -> String {
+    renumbered(step, |number| number + usize::from(number >= from))
+}
+
+/// A step with other numbers for its used parents.
+fn renumbered(step: &str, new: impl Fn(usize) -> usize) -> String {
     let mut words = words(step);
     let used = [(1, uses_first(&words[0])), (3, uses_second(&words[0]))];
     for (place, _) in used.into_iter().filter(|&(_, used)| used) {
-        let number: usize = words[place].parse().unwrap_or(0);
-        words[place] = (number + usize::from(number >= from)).to_string();
+        words[place] = new(words[place].parse().unwrap_or(0)).to_string();
     }
     words.join(" ")
 }
 
+/// The same with its inputs the other way round; all of them are used.
+pub(super) fn turned(refutation: &Refutation) -> Refutation {
+    let count = refutation.inputs.len();
+    let new = |number| match number < count {
+        true => count - 1 - number,
+        false => number,
+    };
+    let steps = refutation.steps.iter().map(|step| renumbered(step, new));
+    Refutation {
+        inputs: refutation.inputs.iter().rev().cloned().collect(),
+        steps: steps.collect(),
+        unused: Vec::new(),
+    }
+}
+
 /// For each rule a refutation with a step by it, in which all inputs are used;
 /// for inh and inp one more, by a signature with none.
-fn by_each_rule() -> Vec<Refutation> {
+pub(super) fn by_each_rule() -> Vec<Refutation> {
     let mut all = vec![
         Refutation::new(
             &["(- (sub A A))"],

@@ -1,20 +1,20 @@
 use Prim.Native.Nat.{_≤_, _+_, _-_}
 use borrow.Author.Tests.{not-false}
 use lib.ListN.{length, drop}
-use mathlib.Core.Path.{_≡_, refl}
+use mathlib.Core.Path.{_≡_}
 use native.Mathlib.Omega.{arith}
 use Rattle.text.specs.Size.{lineLength}
 use Rattle.scan.proofs.texts.near.Statement.{statement}
 use Rattle.scan.proofs.texts.near.Tie as tie
 
 abbrev Inv-loop : tie.InvT-loop
-Inv-loop text at n i₀ i = (i ≤ length text) × (i + lineLength (drop i text) ≡ at + lineLength (drop at text))
+Inv-loop text n i₀ i = (i ≤ length text) × (i + lineLength (drop i text) ≡ lineLength text)
 
 abbrev μ-loop : tie.MeasureT-loop
-μ-loop text at n i₀ i = length text - i
+μ-loop text n i₀ i = length text - i
 
 loop-holds : tie.Need-loop-holds Inv-loop μ-loop
-loop-holds c = (omega arith, refl)
+loop-holds c = (omega arith, omega arith)
 
 returns : tie.Need-returns Inv-loop μ-loop
 returns c = c .before .before .before .loop .inv

@@ -1,0 +1,11 @@
+-- `verdict::constant_held` meets its contract.
+use mathlib.Core.Path.{ap, _∙_}
+use Rattle.reader.specs.State.{hasConstant}
+use Rattle.verdict.proofs.constant_held.Statement.{statement}
+use Rattle.verdict.proofs.constant_held.Tie as tie
+
+returns : tie.Need-returns
+returns c = c .has-constant .ensures .0 ∙ ap hasConstant (c .before .table .ensures .0)
+
+pub constant-held-spec : {M : Type 1} → statement M
+constant-held-spec = tie.close (tie.spec (λ c κs. tt) (λ c κs. tt) returns)
