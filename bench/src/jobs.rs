@@ -10,9 +10,6 @@ use second::Verdict;
 
 /// The ratio to stay within.
 const GOAL: f64 = 1.05;
-/// To copy the two together moves all bytes of the base. The bytes that are moved
-/// more than for the text in one piece may be one part in so many of these.
-const LITTLE: usize = 4;
 
 /// A base and a job that are accepted.
 struct Job {
@@ -94,7 +91,7 @@ fn print_row(job: &Job, joined: &[u8], (whole, parts): (f64, f64), counts: [&Cou
         format!("{whole}, {parts}")
     };
     let copied = match counts.map(|counts| counts.moved) {
-        [Some(whole), Some(parts)] => met(parts <= whole + (job.base.len() / LITTLE) as u64),
+        [Some(whole), Some(parts)] => met(parts <= whole),
         _ => "-",
     };
     println!(

@@ -4,9 +4,9 @@ use answer::ROOM;
 use libc::STDOUT_FILENO;
 use verdict::Answer;
 
-// Reads into text until it is full, the input ends or a read fails, answers how many bytes it put there, and leaves in failed whether a read
-// failed. A buffer that has one byte more than a text may have is enough: where it is full the text has too many, which a check sees by its
-// length, and nothing more is read.
+// Reads into text until it is full, the input ends or a read fails, answers how many bytes it put there, and leaves in failed whether a
+// read failed. A buffer that has one byte more than a text may have is enough: where it is full the text has too many, which a check sees
+// by its length, and nothing more is read.
 pub fn read_text(fd: i32, text: &mut [u8], failed: &mut bool) -> usize
     ensures { λ r. ⌜ Counts r (now (text .exit)) ⌝ }
 {

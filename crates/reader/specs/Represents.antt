@@ -51,8 +51,8 @@ Begins r = (depth : ℕ) (part : ℕ → List ℕ) → Represents depth part r f
 
 unfoldable pub Sees : ℕ → List ℕ → ℕ → ℕ → ℕ → List ℕ → Seen → Type 0
 Sees depth counts symbols clauses inputs bytes r =
-    (part : ℕ → List ℕ) (held : code.HeldState) (st : State) → Represents depth part held st → counts ≡ held .counts → symbols ≡ held .symbols →
-    clauses ≡ held .clauses → inputs ≡ held .inputs →
+    (part : ℕ → List ℕ) (held : code.HeldState) (st : State) → Represents depth part held st → counts ≡ held .counts →
+    symbols ≡ held .symbols → clauses ≡ held .clauses → inputs ≡ held .inputs →
     (r .failure ≡ readFailure st (readLine depth bytes)) × (r .line ≡ lineOf (st .symbols) bytes (readLine depth bytes))
 
 -- The line's bytes stand at `start`, within the office's bytes, and the state has room.

@@ -304,8 +304,8 @@ fn read_on<'a>(
     )
 }
 
-// The verdict on a base and a job: check 1 of the base, and then the lines. The inputs on which a refutation rests are marked in rests, where
-// nothing is marked before.
+// The verdict on a base and a job: check 1 of the base, and then the lines. The inputs on which a refutation rests are marked in rests,
+// where nothing is marked before.
 fn verdict_on<'a>(
     base: &'a [u8],
     job: &'a [u8],
