@@ -82,20 +82,19 @@ module _ {depth : ℕ} {part : ℕ → List ℕ} {held : code.HeldState} {st : S
       let e : length (take (held .symbols) (held .counts)) ≡ length (st .symbols) = ap length (R .table) in
       omega (arith, e, length-take (held .symbols) (held .counts), R .symbols)
 
-  constant-held : {b : Bool} → hasConstant (take (held .symbols) (held .counts)) ≡ b → hasConstant (st .symbols) ≡ b
-  unfolding heldTable
+  constant-held : {b : Bool} → hasConstant (heldTable held) ≡ b → hasConstant (st .symbols) ≡ b
   constant-held e = ap hasConstant (sym (R .table)) ∙ e
 
-  pub finish-refused : hasConstant (take (held .symbols) (held .counts)) ≡ false → Refused 4 0 ≡ finish st
+  pub finish-refused : hasConstant (heldTable held) ≡ false → Refused 4 0 ≡ finish st
   unfolding finish
   finish-refused e = rw (constant-held e)
 
-  pub finish-refuted : {first : ℕ} → hasConstant (take (held .symbols) (held .counts)) ≡ true → first ≡ firstEmpty (clauses st) → first < held .clauses →
+  pub finish-refuted : {first : ℕ} → hasConstant (heldTable held) ≡ true → first ≡ firstEmpty (clauses st) → first < held .clauses →
       Refuted (held .clauses) first ≡ finish st
   unfolding finish acceptedAs
   finish-refuted {first} e f l = rw (constant-held e, ← f, ← R .count, lt-ltb first (held .clauses) l)
 
-  pub finish-open : {first : ℕ} → hasConstant (take (held .symbols) (held .counts)) ≡ true → first ≡ firstEmpty (clauses st) → held .clauses ≤ first →
+  pub finish-open : {first : ℕ} → hasConstant (heldTable held) ≡ true → first ≡ firstEmpty (clauses st) → held .clauses ≤ first →
       Open (held .clauses) ≡ finish st
   unfolding finish acceptedAs
   finish-open {first} e f l = rw (constant-held e, ← f, ← R .count, le-ltb first (held .clauses) l)

@@ -29,8 +29,8 @@ use Rattle.text.specs.declared.Figures.{Figures}
 use Rattle.text.specs.Figures.{office, UpToOffice}
 use Rattle.text.specs.Size.{lineLength, firstLine}
 use Rattle.lines.specs.LineAt.{formNumber, lineOf}
-use Rattle.reader.specs.ReadLine.{withAdded, slotOf}
-use Rattle.reader.specs.State.{State, fresh, claimOf, clauses, advance, ordered, constantReady, withinLimits, symbolsDeclared, after, stateAfter}
+use Rattle.reader.specs.ReadLine.{heldTable, withAdded, slotOf}
+use Rattle.reader.specs.State.{State, fresh, claimOf, clauses, hasConstant, advance, ordered, constantReady, withinLimits, symbolsDeclared, after, stateAfter}
 use Rattle.reader.specs.Failure.{lineFailure, readFailure}
 use Rattle.reader.specs.Represents.{Represents, Begins, Sees, LineStands, Adds}
 use Rattle.text.proofs.Sizes.{split-at, split-over}
@@ -38,7 +38,7 @@ use Rattle.verdict.specs.declared.Verdict.{Verdict}
 use Rattle.verdict.specs.declared.Verdict.the-variants.{Refused}
 use Rattle.verdict.specs.declared.HeldClause.{HeldClause}
 use Rattle.verdict.specs.Checks.{readings, stateOf}
-use Rattle.verdict.specs.Answer.{stepFailure, failure, finish, readOn, restsIn}
+use Rattle.verdict.specs.Answer.{stepFailure, failure, firstEmpty, finish, readOn, restsIn}
 use Rattle.verdict.specs.Running.{HeldOf, JudgesRead, FirstFailing, Parented, Finishes}
 use Rattle.verdict.proofs.Ends.{clause-count}
 use Rattle.verdict.proofs.Entailed.{Good, good-fresh, good-after, empty-list}
@@ -375,12 +375,12 @@ module _ {F : Figures} {part : ℕ → List ℕ} {text rest : List ℕ} {lines :
       let e : rest ≡ [] = no-length rest h in
       (P .onward ∙ rw e, P .whole ∙ rw e)
 
-  pub finished : length rest ≡ 0 → (v : Verdict) (before ns : List ℕ) →
-      Finishes (held .counts) (held .symbols) (held .literals) (held .clauses) (held .inputs) ps qs before v ns → before ≡ [] →
+  pub finished : length rest ≡ 0 → (constant : Bool) (first : ℕ) (v : Verdict) (before ns : List ℕ) →
+      Finishes constant (held .clauses) first (held .inputs) ps qs before v ns → constant ≡ hasConstant (heldTable held) → first ≡ firstEmpty (clauses (P .st)) → before ≡ [] →
       (v ≡ readOn fresh 1 (readings F text)) × (ns ≡ restsIn (stateOf F text) v)
   unfolding Finishes
-  finished h v before ns f z =
+  finished h constant first v before ns f c e z =
       let st = P .st in
-      let w = f (F .depth) part held st (P .holds) refl refl refl refl refl (P .parented) (given-falls (st .symbols) (st .inputs) (st .steps) (P .good .given)) z in
-      let (e, g) = reached-end h in
-      (w .0 ∙ sym e, w .1 ∙ rw (g, w .0))
+      let w = f (F .depth) part held st (P .holds) c refl e refl (P .parented) (given-falls (st .symbols) (st .inputs) (st .steps) (P .good .given)) z in
+      let (k, g) = reached-end h in
+      (w .0 ∙ sym k, w .1 ∙ rw (g, w .0))

@@ -7,7 +7,7 @@ use mathlib.Core.Logic.{_⊎_, inl, inr}
 use mathlib.Core.Path.{_≡_, refl, sym, ap, ap₂, subst, _∙_}
 use native.Mathlib.Omega.{arith}
 use native.Mathlib.Decide.{ℕ-discrete, decLt}
-use borrow.Author.Tests.{lt-ltb, le-ltb}
+use borrow.Author.Tests.{eq-eqb, ne-eqb, lt-ltb, le-ltb}
 use lib.Dec.{T, ltb}
 use lib.ListN.{length, set, take, drop, length-append, length-map, length-drop}
 use lib.Seq.{drop-drop, drop-append-le}
@@ -174,10 +174,7 @@ module _ (F : Figures) (base job : List ℕ) (u : UpToOffice F) (small : tooLarg
       unfolding split
       base-lines = omega (arith, base-read .counted)
 
-      pub seam-within : (at ≤ F .bytes) × (lines ≤ F .lines)
-      seam-within = let w = text-within F base small in (omega (arith, q, w .0), omega (arith, base-lines, w .1))
-
-      module _ {n : ℕ} (N : n ≡ seamFailure F (take (held .symbols) (held .counts)) at lines job) where
+      module _ {n : ℕ} (N : n ≡ seamFailure F (take (held .symbols) (held .counts)) (length base) at lines job) where
         abbrev st : State
         st = base-read .st
 
@@ -194,17 +191,17 @@ module _ (F : Figures) (base job : List ℕ) (u : UpToOffice F) (small : tooLarg
         both-split : hasConstant (st .symbols) ≡ true → split (base ++ job) ≡ split base ++ split job
         both-split c = lines-append F base small (rw (base-taken c) tt) job
 
-        both-large : hasConstant (st .symbols) ≡ true → tooLarge (leftOf F at lines) job ≡ tooLarge F (base ++ job)
-        both-large c = let w = text-within F base small in rw (q, base-lines) (left-large F base job (w .0) (w .1) (both-split c))
+        both-large : hasConstant (st .symbols) ≡ true → tooLarge (leftOf F (length base) lines) job ≡ tooLarge F (base ++ job)
+        both-large c = let w = text-within F base small in rw base-lines (left-large F base job (w .0) (w .1) (both-split c))
 
         number-of : (c : Bool) → hasConstant (st .symbols) ≡ c → n ≡ cond c (cond (tooLarge F (base ++ job)) 1 0) 4
         unfolding seamFailure
-        number-of true c = N ∙ rw (table-is, c, both-large c)
-        number-of false c = N ∙ rw (table-is, c)
+        number-of true c = N ∙ rw (eq-eqb at (length base) q, table-is, c, both-large c)
+        number-of false c = N ∙ rw (eq-eqb at (length base) q, table-is, c)
 
-        pub seam-refused : (n ≡ 0 → ⊥) → {ns : List ℕ} → ns ≡ [] → Answers F base job (Refused n 0) ns
+        seam-answers : (n ≡ 0 → ⊥) → {ns : List ℕ} → ns ≡ [] → Answers F base job (Refused n 0) ns
         unfolding verdict
-        seam-refused z {ns} g = go (hasConstant (st .symbols)) refl (tooLarge F (base ++ job)) refl
+        seam-answers z {ns} g = go (hasConstant (st .symbols)) refl (tooLarge F (base ++ job)) refl
           where
             go : (c : Bool) → hasConstant (st .symbols) ≡ c → (b : Bool) → tooLarge F (base ++ job) ≡ b → Answers F base job (Refused n 0) ns
             go true c true b =
@@ -266,22 +263,40 @@ module _ (F : Figures) (base job : List ℕ) (u : UpToOffice F) (small : tooLarg
                 reached = job-reached;
               }
 
+    -- No more lines are read than the text has.
+    pub lines-within : lines ≤ F .lines
+    lines-within = go (P .stage)
+      where
+        go : Alone base at (P .text) (P .rest) ⊎ (Joined F base job at (P .text) (P .rest) × (length base < at)) → lines ≤ F .lines
+        go (inl A) = omega (arith, P .reached .counted, ap (λ t. length (split t)) (A .is), text-within F base small .1)
+        go (inr (J, l)) = omega (arith, P .reached .counted, ap (λ t. length (split t)) (J .is), text-within F (base ++ job) (J .small) .1)
+
+    pub seam-refused : {n : ℕ} → n ≡ seamFailure F (take (held .symbols) (held .counts)) (length base) at lines job → (n ≡ 0 → ⊥) → {ns : List ℕ} → ns ≡ [] →
+        Answers F base job (Refused n 0) ns
+    unfolding seamFailure
+    seam-refused {n} N z {ns} g = go (ℕ-discrete at (length base))
+      where
+        go : Dec (at ≡ length base) → Answers F base job (Refused n 0) ns
+        go (yes q) = seam-answers q N z g
+        go (no q) = absurd (z (N ∙ rw (ne-eqb at (length base) q)))
+
     -- A line is ahead: of the base, or of the job, whose beginning is passed.
-    pub came-ahead : (at ≡ length base → seamFailure F (take (held .symbols) (held .counts)) at lines job ≡ 0) → Ahead F base job at lines held ps qs
+    pub came-ahead : seamFailure F (take (held .symbols) (held .counts)) (length base) at lines job ≡ 0 → Ahead F base job at lines held ps qs
     came-ahead z = go (ℕ-discrete at (length base)) (P .stage)
       where
         ahead : ((Alone base at (P .text) (P .rest) × (at < length base)) ⊎ Joined F base job at (P .text) (P .rest)) × (P .rest ≡ partAt base job at) → Ahead F base job at lines held ps qs
         ahead s = record { text = P .text; rest = P .rest; stage = s; fits = P .fits; within = P .within; reached = P .reached }
 
         go : Dec (at ≡ length base) → Alone base at (P .text) (P .rest) ⊎ (Joined F base job at (P .text) (P .rest) × (length base < at)) → Ahead F base job at lines held ps qs
-        go (yes q) s = job-ahead q refl (z q)
+        go (yes q) s = job-ahead q refl z
         go (no q) (inl A) = let l : at < length base = omega (arith, A .within) in ahead (inl (A, l), A .left ∙ sym (part-base base job at l))
         go (no q) (inr (J, l)) = ahead (inr J, J .left ∙ sym (part-job base job at (J .within)))
 
     -- All lines are read.
-    pub came-end : length base + min (length job) (office .bytes + 1) ≤ at → (v : Verdict) (before ns : List ℕ) →
-        Finishes (held .counts) (held .symbols) (held .literals) (held .clauses) (held .inputs) ps qs before v ns → before ≡ [] → Answers F base job v ns
-    came-end e v before ns f z = go (P .stage)
+    pub came-end : length base + min (length job) (office .bytes + 1) ≤ at → (constant : Bool) (first : ℕ) (v : Verdict) (before ns : List ℕ) →
+        Finishes constant (held .clauses) first (held .inputs) ps qs before v ns → constant ≡ hasConstant (heldTable held) → first ≡ firstEmpty (clauses (P .reached .st)) → before ≡ [] →
+        Answers F base job v ns
+    came-end e constant first v before ns f c d z = go (P .stage)
       where
         h : length (partAt base job at) ≡ 0
         h = part-none base job at e (omega (arith, P .fits))
@@ -292,10 +307,10 @@ module _ (F : Figures) (base job : List ℕ) (u : UpToOffice F) (small : tooLarg
             let e : P .rest ≡ [] = A .left ∙ past base at w in
             let k : at - length base ≡ 0 = omega (arith, A .within) in
             let j : job ≡ [] = no-length job (rw (part-job base job at w, k) at h) in
-            text-answers base small (rw j (jointly-nothing F base)) (rw (A .is) at (finished (P .reached) (ap length e) v before ns f z))
+            text-answers base small (rw j (jointly-nothing F base)) (rw (A .is) at (finished (P .reached) (ap length e) constant first v before ns f c d z))
         go (inr (J, l)) =
             let e : P .rest ≡ partAt base job at = J .left ∙ sym (part-job base job at (J .within)) in
-            text-answers (base ++ job) (J .small) (jointly-joined F base job (J .accepted)) (rw (J .is) at (finished (P .reached) (ap length e ∙ h) v before ns f z))
+            text-answers (base ++ job) (J .small) (jointly-joined F base job (J .accepted)) (rw (J .is) at (finished (P .reached) (ap length e ∙ h) constant first v before ns f c d z))
 
   -- A line as it was read, once its number is known.
   module _ {at lines : ℕ} {held : code.HeldState} {ps qs : List ℕ} (P : Ahead F base job at lines held ps qs) (some : 0 < length (partAt base job at)) {n : ℕ}

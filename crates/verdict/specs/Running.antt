@@ -1,7 +1,8 @@
 -- What the functions below `check` promise: what the state that the code holds (code.HeldState) tells of each state of the definitions that
 -- it represents. Nothing here has to be believed: `check` promises the verdict of the definitions.
 use Prim.Native.Nat.{ℕ, _-_, _<_}
-use mathlib.Core.Bool.{cond}
+use mathlib.Core.Bool.{Bool, cond}
+use lib.Dec.{eqb}
 use mathlib.Core.List.{List, []}
 use mathlib.Core.Path.{_≡_}
 use lib.ListN.{length, getD}
@@ -19,6 +20,7 @@ use Rattle.text.specs.Form.{form}
 use Rattle.text.specs.Read.{readLine}
 use Rattle.reader.specs.State.{State, clauses, hasConstant}
 use Rattle.reader.specs.Represents.{Represents}
+use Rattle.reader.specs.ReadLine.{heldTable}
 use Rattle.reader.specs.Failure.{readFailure}
 use Rattle.verdict.specs.declared.Verdict.{Verdict}
 use Rattle.verdict.specs.declared.HeldClause.{HeldClause}
@@ -56,19 +58,20 @@ pub record Parented (st : State) (ps qs : List ℕ) : Type 0 where
   pub first : HeldFrom (λ s. parentsOf s .a) (length (st .inputs)) ps (st .steps)
   pub second : HeldFrom (λ s. parentsOf s .b) (length (st .inputs)) qs (st .steps)
 
-unfoldable pub Finishes : List ℕ → ℕ → List ℕ → ℕ → ℕ → List ℕ → List ℕ → List ℕ → Verdict → List ℕ → Type 0
-Finishes counts symbols literals count inputs ps qs before v ns =
-    (depth : ℕ) (part : ℕ → List ℕ) (held : code.HeldState) (st : State) → Represents depth part held st → counts ≡ held .counts →
-    symbols ≡ held .symbols → literals ≡ held .literals → count ≡ held .clauses → inputs ≡ held .inputs → Parented st ps qs →
-    ParentsFall (length (st .inputs)) (st .steps) → before ≡ [] → (v ≡ finish st) × (ns ≡ restsIn st (finish st))
+unfoldable pub Finishes : Bool → ℕ → ℕ → ℕ → List ℕ → List ℕ → List ℕ → Verdict → List ℕ → Type 0
+Finishes constant count first inputs ps qs before v ns =
+    (depth : ℕ) (part : ℕ → List ℕ) (held : code.HeldState) (st : State) → Represents depth part held st →
+    constant ≡ hasConstant (heldTable held) → count ≡ held .clauses → first ≡ firstEmpty (clauses st) → inputs ≡ held .inputs →
+    Parented st ps qs → ParentsFall (length (st .inputs)) (st .steps) → before ≡ [] → (v ≡ finish st) × (ns ≡ restsIn st (finish st))
 
 -- What the figures leave after so many bytes and lines.
 unfoldable pub leftOf : Figures → ℕ → ℕ → Figures
 leftOf F bytes lines = record { bytes = F .bytes - bytes; lines = F .lines - lines; depth = F .depth }
 
--- Where the base ends and the job begins: check 4 of the base, and check 1 of the two.
-unfoldable pub seamFailure : Figures → List ℕ → ℕ → ℕ → List ℕ → ℕ
-seamFailure F table bytes lines job = cond (hasConstant table) (cond (tooLarge (leftOf F bytes lines) job) 1 0) 4
+-- Where the base ends and the job begins: check 4 of the base, and check 1 of the two. Nothing fails at other places.
+unfoldable pub seamFailure : Figures → List ℕ → ℕ → ℕ → ℕ → List ℕ → ℕ
+seamFailure F table base at lines job =
+    cond (eqb at base) (cond (hasConstant table) (cond (tooLarge (leftOf F base lines) job) 1 0) 4) 0
 
 -- Of the lines of a base and a job.
 unfoldable pub Answers : Figures → List ℕ → List ℕ → Verdict → List ℕ → Type 0

@@ -170,28 +170,26 @@ fn first_empty(literals: &[u8], clauses: usize) -> usize
     n
 }
 
-// All lines have passed. Of each step the parents that it uses are held in a and b. The inputs on which a refutation rests are marked in
-// rests, where nothing is marked before.
-fn finish<'a>(
-    counts: &'a [u8],
-    symbols: usize,
-    literals: &'a [u8],
-    clauses: usize,
+// All lines have passed: whether there is a constant, the number of clauses and of the first empty one, and the number of in lines. Of each
+// step the parents that it uses are held in a and b. The inputs on which a refutation rests are marked in rests, where nothing is marked
+// before.
+fn finish(
+    constant: bool,
+    count: usize,
+    first: usize,
     inputs: usize,
     a: &[u16; LINES],
     b: &[u16; LINES],
     rests: &mut [bool; LINES],
 ) -> Verdict
-    requires { ⌜ (clauses ≤ length (now literals)) × (clauses ≤ office .lines) ⌝ }
+    requires { ⌜ count ≤ office .lines ⌝ }
     ensures { λ r.
-        ⌜ Finishes (now (counts .entry)) symbols (now (literals .entry)) clauses inputs (now (a .entry)) (now (b .entry))
-        (named (now (rests .entry))) r (named (now (rests .exit))) ⌝ }
+        ⌜ Finishes constant count first inputs (now (a .entry)) (now (b .entry)) (named (now (rests .entry))) r
+        (named (now (rests .exit))) ⌝ }
 {
-    if !constant_held(counts, symbols) {
+    if !constant {
         return Verdict::Refused { number: 4, line: 0 };
     }
-    let count = clauses;
-    let first = first_empty(literals, clauses);
     if first >= count {
         return Verdict::Open { count };
     }
@@ -210,24 +208,28 @@ fn reach(base: usize, job: usize) -> usize
     base + job
 }
 
-// What fails where the base ends and the job begins, so many bytes and lines after the beginning: 4 where the base has no constant, 1 where
-// the two are too large together, or 0.
+// What fails at a place, so many lines after the beginning, where the base ends and the job begins: 4 where the base has no constant, 1
+// where the two are too large together, or 0. Nothing fails at other places.
 fn seam(
     figures: Figures,
     counts: &[u8],
     symbols: usize,
-    bytes: usize,
+    base: usize,
+    at: usize,
     lines: usize,
     job: &[u8],
 ) -> usize
-    requires { ⌜ (bytes ≤ figures .bytes) × (lines ≤ figures .lines) ⌝ }
-    ensures { λ r. ⌜ r ≡ seamFailure figures (take symbols (now (counts .entry))) bytes lines (now (job .entry)) ⌝ }
+    requires { ⌜ (base ≤ figures .bytes) × (lines ≤ figures .lines) ⌝ }
+    ensures { λ r. ⌜ r ≡ seamFailure figures (take symbols (now (counts .entry))) base at lines (now (job .entry)) ⌝ }
 {
+    if at != base {
+        return 0;
+    }
     if !constant_held(counts, symbols) {
         return 4;
     }
     let left = Figures {
-        bytes: figures.bytes - bytes,
+        bytes: figures.bytes - base,
         lines: figures.lines - lines,
         depth: figures.depth,
     };
@@ -253,11 +255,9 @@ fn read_on<'a>(
     let mut lines = 0;
     while at < whole {
         let symbols = state.symbols;
-        if at == base.len() {
-            let number = seam(figures, &state.counts, symbols, at, lines, job);
-            if number != 0 {
-                return Verdict::Refused { number, line: 0 };
-            }
+        let number = seam(figures, &state.counts, symbols, base.len(), at, lines, job);
+        if number != 0 {
+            return Verdict::Refused { number, line: 0 };
         }
         let bytes = first_line(part_at(base, job, at));
         let clauses = state.clauses;
@@ -291,12 +291,13 @@ fn read_on<'a>(
         at += bytes.len() + 1;
         lines = line;
     }
-    let clauses = state.clauses;
+    let constant = constant_held(&state.counts, state.symbols);
+    let count = state.clauses;
+    let first = first_empty(&state.literals, count);
     finish(
-        &state.counts,
-        state.symbols,
-        &state.literals,
-        clauses,
+        constant,
+        count,
+        first,
         state.inputs,
         &first_parents,
         &second_parents,

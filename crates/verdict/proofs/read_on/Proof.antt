@@ -3,15 +3,16 @@
 use Prim.Native.Nat.{ℕ, _+_, _-_, _≤_, _<_}
 use mathlib.Core.List.{List}
 use mathlib.Core.Logic.{⊎-elim}
-use mathlib.Core.Path.{_≡_, sym, ap, _∙_}
+use mathlib.Core.Path.{_≡_, refl, sym, ap, _∙_}
 use denote.Ref.{now}
-use lib.ListN.{length, take, length-set, length-replicate}
+use lib.ListN.{length, length-set, length-replicate}
 use Rattle.text.specs.Figures.{office}
-use Rattle.text.specs.Size.{firstLine}
+use Rattle.text.specs.Size.{firstLine, partAt}
 use native.Mathlib.Omega.{arith}
-use Rattle.verdict.specs.Running.{seamFailure}
+use Rattle.reader.specs.ReadLine.{heldTable}
+use Rattle.verdict.specs.Running.{FindsEmpty}
 use Rattle.verdict.proofs.Running.{text-within, line-number, line-added, line-parented, slot-below, held-of, held-within}
-use Rattle.verdict.proofs.TwoTexts.{Came, Ahead, LineRead, part-some, came-first, came-ahead, came-end, came-as, seam-within, seam-refused, line-answer, line-stands, line-after, room-here, symbol-came, clause-came, symbol-room}
+use Rattle.verdict.proofs.TwoTexts.{Came, Ahead, LineRead, part-some, came-first, came-ahead, came-end, came-as, lines-within, seam-refused, line-answer, line-stands, line-after, room-here, symbol-came, clause-came, symbol-room}
 use Rattle.verdict.proofs.read_on.Statement.{statement}
 use Rattle.verdict.proofs.read_on.Tie as tie
 
@@ -36,50 +37,44 @@ reach-requires c κs =
 -- Where the base ends and the job begins.
 seam-requires : tie.Need-seam-requires Inv-loop μ-loop
 seam-requires c κs =
-    let d = c .before .before .before in
-    let l = d .before .before in
+    let l = c .before .before .before .before in
     let p = l .before .before .before .before .before .pre in
-    seam-within _ _ _ (p .1) (p .0) (l .loop .inv .2) (d .if1 .taken)
+    (text-within _ _ (p .0) .0, lines-within _ _ _ (p .1) (p .0) (l .loop .inv .2))
 
 returns : tie.Need-returns Inv-loop μ-loop
 returns c =
-    let s = c .before in
-    let d = s .before .before .before .before in
-    let l = d .before .before in
+    let l = c .before .before .before .before .before .before in
     let p = l .before .before .before .before .before .pre in
-    seam-refused _ _ _ (p .1) (p .0) (l .loop .inv .2) (d .if1 .taken) (s .seam .ensures) (c .if2 .taken) (p .2)
+    seam-refused _ _ _ (p .1) (p .0) (l .loop .inv .2) (c .before .seam .ensures) (c .if1 .taken) (p .2)
 
 -- A line is ahead.
-line-ahead : (c : tie.Joined1 Inv-loop μ-loop) →
-    let d = c .before .before in
+line-ahead : (c : tie.Else1 Inv-loop μ-loop) →
+    let d = c .before .before .before .before .before .before in
     let a = d .before .before .before .before .before .args in
     Ahead (a .figures) (now (a .base)) (now (a .job)) (d .loop .at) (d .loop .lines) (d .loop .state) (d .loop .first-parents) (d .loop .second-parents)
 line-ahead c =
-    let d = c .before .before in
-    let a = d .before .before .before .before .before .args in
+    let d = c .before .before .before .before .before .before in
     let p = d .before .before .before .before .before .pre in
-    let l = d .loop in
-    let n = seamFailure (a .figures) (take (l .state .symbols) (l .state .counts)) (l .at) (l .lines) (now (a .job)) in
-    came-ahead (a .figures) (now (a .base)) (now (a .job)) (p .1) (p .0) (l .inv .2) (λ q. ⊎-elim {C = n ≡ 0} (λ w. sym (w .4 .ensures) ∙ w .5 .left) (λ w. absurd (w .left q)) (c .if1 .came))
+    came-ahead _ _ _ (p .1) (p .0) (d .loop .inv .2) (sym (c .before .seam .ensures) ∙ c .if1 .left)
 
 -- The line as it was read.
 line-read : (c : tie.After-failing Inv-loop μ-loop) →
     let see = c .before .before .before .before .before .before .before .before .before .before .before .before in
     let line = see .before .before .before .before in
-    let d = line .before .before .before .before in
+    let d = line .before .before .before .before .before .before .before .before in
     let a = d .before .before .before .before .before .args in
     LineRead (a .figures) (now (a .base)) (now (a .job)) (d .loop .at) (d .loop .lines) (d .loop .state) (d .loop .first-parents) (d .loop .second-parents) (now (line .first-line .result)) (see .see .result) (c .failing .result)
 line-read c =
     let see = c .before .before .before .before .before .before .before .before .before .before .before .before in
     let line = see .before .before .before .before in
     let j = line .before .before in
-    let d = j .before .before in
+    let d = j .before .before .before .before .before .before in
     let a = d .before .before .before .before .before .args in
     let p = d .before .before .before .before .before .pre in
     let A = line-ahead j in
     let P = A .reached in
     let s = see .see .result in
-    let some = part-some (now (a .base)) (now (a .job)) (d .loop .at) (office .bytes + 1) (omega (arith, d .before .before .reach .ensures, j .before .loop-test .taken)) in
+    let some = part-some (now (a .base)) (now (a .job)) (d .loop .at) (office .bytes + 1) (omega (arith, d .before .before .reach .ensures, j .before .before .before .before .before .loop-test .taken)) in
     let ha = held-of (d .loop .state) (s .line .a) (held-within P) (c .before .before .before .before .before .before .before .before .before .before .slot .ensures) (c .before .before .before .before .before .before .held .ensures) in
     let hb = held-of (d .loop .state) (s .line .b) (held-within P) (c .before .before .before .before .before .slot2 .ensures) (c .before .held2 .ensures) in
     let e : now (line .first-line .result) ≡ firstLine (A .rest) = line .first-line .ensures ∙ ap firstLine (line .before .part-at .ensures .0 ∙ sym (A .stage .1)) in
@@ -127,19 +122,19 @@ add-line c = let P = line-read c .ahead .reached in omega (arith, P .counted, P 
 returns-2 : tie.Need-returns-2 Inv-loop μ-loop
 returns-2 c =
     let r = line-read (c .before) in
-    let d = c .before .before .before .before .before .before .before .before .before .before .before .before .before .before .before .before .before .before .before .before .before in
-    line-answer _ _ _ (r .figures) (r .small) (r .ahead) (r .some) (r .number) (c .if3 .taken) (d .before .before .before .before .before .pre .2)
+    let d = c .before .before .before .before .before .before .before .before .before .before .before .before .before .before .before .before .before .before .before .before .before .before .before .before .before in
+    line-answer _ _ _ (r .figures) (r .small) (r .ahead) (r .some) (r .number) (c .if2 .taken) (d .before .before .before .before .before .pre .2)
 
 -- There is room for a clause more.
 clause-fits : (c : tie.After-failing Inv-loop μ-loop) →
-    c .before .before .before .before .before .before .before .before .before .before .before .before .before .before .before .before .before .before .before .before .loop .state .clauses < office .lines
+    c .before .before .before .before .before .before .before .before .before .before .before .before .before .before .before .before .before .before .before .before .before .before .before .before .loop .state .clauses < office .lines
 clause-fits c = let r = line-read c in room-here _ _ _ (r .figures) (r .small) (r .ahead) (r .some) (r .number)
 
 element-write-state : tie.Need-element-write-state Inv-loop μ-loop
 element-write-state c =
-    let z = c .before .before .before .if3 .left in
+    let z = c .before .before .before .if2 .left in
     let r = line-read (c .before .before .before .before) in
-    symbol-room _ _ _ (r .figures) (r .small) (r .ahead) (r .some) (r .number) _ z (r .added z _ (c .before .adds .ensures .1)) (r .parents z _ (c .before .before .used-parents .ensures)) (c .if4 .taken)
+    symbol-room _ _ _ (r .figures) (r .small) (r .ahead) (r .some) (r .number) _ z (r .added z _ (c .before .adds .ensures .1)) (r .parents z _ (c .before .before .used-parents .ensures)) (c .if3 .taken)
 
 add-state : tie.Need-add-state Inv-loop μ-loop
 add-state c = let h = element-write-state c in omega arith
@@ -160,15 +155,15 @@ add-state-2 : tie.Need-add-state-2 Inv-loop μ-loop
 add-state-2 c = omega (arith, clause-fits (c .before .before .before .before))
 
 -- The place after the line.
-next-place : (c : tie.Joined4 Inv-loop μ-loop) →
+next-place : (c : tie.Joined3 Inv-loop μ-loop) →
     let line = c .before .before .before .before .before .before .before .before .before .before .before .before .before .before .before .before .before .before .before .before in
-    let d = line .before .before .before .before in
+    let d = line .before .before .before .before .before .before .before .before in
     let a = d .before .before .before .before .before .args in
     let n = d .loop .at + (length (now (line .first-line .result)) + 1) in
     (n ≤ length (now (a .base)) + length (now (a .job))) × (n ≤ office .bytes)
 next-place c =
     let r = line-read (c .before .before .before .before) in
-    let z = c .before .before .before .if3 .left in
+    let z = c .before .before .before .if2 .left in
     let w = line-after _ _ _ (r .figures) (r .small) (r .ahead) (r .some) (r .number) z in
     (omega (arith, w .0, ap length (r .is)), omega (arith, w .1, ap length (r .is)))
 
@@ -184,10 +179,9 @@ loop-less c = omega (arith, next-place c .0)
 loop-again : tie.Need-loop-again Inv-loop μ-loop
 loop-again c =
     let g = c .before .before .before .before in
-    let line = g .before .before .before .before .before .before .before .before .before .before .before .before .before .before .before .before in
-    let l = line .before .before .before .before .loop in
+    let l = g .before .before .before .before .before .before .before .before .before .before .before .before .before .before .before .before .before .before .before .before .before .before .before .before .loop in
     let r = line-read g in
-    let z = c .before .before .before .if3 .left in
+    let z = c .before .before .before .if2 .left in
     let A = r .added z _ (c .before .adds .ensures .1) in
     let B = r .parents z _ (c .before .before .used-parents .ensures) in
     let q = ap (λ (x : List ℕ). l .at + (length x + 1)) (r .is) in (
@@ -196,21 +190,27 @@ loop-again c =
       ⊎-elim
           (λ w. came-as (symbol-came _ _ _ (r .figures) (r .small) (r .ahead) (r .some) (r .number) _ z A B (w .0 .taken)) q (w .1))
           (λ w. came-as (clause-came _ _ _ (r .figures) (r .small) (r .ahead) (r .some) (r .number) _ z A B (w .0 .left)) q (w .1))
-          (c .if4 .came),
+          (c .if3 .came),
     )
 
+-- All lines are read.
+first-empty-requires : tie.Need-first-empty-requires Inv-loop μ-loop
+first-empty-requires c κs = let P = c .before .before .before .before .before .before .before .before .loop .inv .2 .reached in omega (arith, held-within P, P .holds .literals-room)
+
 finish-requires : tie.Need-finish-requires Inv-loop μ-loop
-finish-requires c κs =
-    let P = c .before .before .before .before .before .before .before .before .before .loop .inv .2 .reached in
-    let h = held-within P in
-    (omega (arith, h, P .holds .literals-room), h)
+finish-requires c κs = held-within (c .before .before .before .before .before .before .before .before .before .before .before .before .loop .inv .2 .reached)
 
 returns-3 : tie.Need-returns-3 Inv-loop μ-loop
+unfolding FindsEmpty heldTable
 returns-3 c =
-    let e = c .before .before .before .before .before .before .before .before .before in
+    let f = c .before .before .before .before in
+    let e = f .before .before .before .before .before .before .before .before in
     let l = e .before in
+    let a = l .before .before .before .before .before .args in
     let p = l .before .before .before .before .before .pre in
-    came-end _ _ _ (p .1) (p .0) (l .loop .inv .2) (omega (arith, l .before .before .reach .ensures, e .loop-test .left)) _ _ _ (c .finish .ensures) (p .2)
+    let P = l .loop .inv .2 in
+    let first = f .first-empty .ensures (a .figures .depth) (partAt (now (a .base)) (now (a .job))) (l .loop .state) (P .reached .st) (P .reached .holds) refl refl in
+    came-end _ _ _ (p .1) (p .0) P (omega (arith, l .before .before .reach .ensures, e .loop-test .left)) _ _ _ _ _ (c .finish .ensures) (f .before .before .before .before .constant-held .ensures) first (p .2)
 
 pub read-on-spec : {M : Type 1} → statement M
 read-on-spec =
@@ -219,4 +219,4 @@ read-on-spec =
     mul-held element-copy-out-held element-copy-out-held-2 element-copy-out-held-3 (λ c κs. tt) (λ c κs. tt)
     mul-held-2 element-copy-out-held-4 element-copy-out-held-5 element-copy-out-held-6 (λ c κs. tt) (λ c κs. tt) add-line returns-2 (λ c κs. tt)
     (λ c. omega (arith, clause-fits (c .before .before))) (λ c. omega (arith, clause-fits (c .before .before))) (λ c. omega (arith, clause-fits (c .before .before))) (λ c. omega (arith, clause-fits (c .before .before)))
-    (λ c κs. tt) element-write-state add-state mul-state element-write-state-2 element-write-state-3 element-write-state-4 add-state-2 add-at add-at-2 loop-less loop-again finish-requires returns-3)
+    (λ c κs. tt) element-write-state add-state mul-state element-write-state-2 element-write-state-3 element-write-state-4 add-state-2 add-at add-at-2 loop-less loop-again (λ c κs. tt) first-empty-requires finish-requires returns-3)
