@@ -16,6 +16,7 @@ use Rattle.text.specs.Read.{readRaw}
 use Rattle.text.specs.Split.{Raw, ended, unended, split}
 use Rattle.text.specs.declared.Figures.{Figures}
 use Rattle.text.proofs.Lines.{AllEnded, split-append}
+use Rattle.text.proofs.Tests.{holds}
 use Rattle.reader.specs.State.{State, fresh, after, stateAfter}
 use Rattle.verdict.specs.declared.Verdict.{Verdict}
 use Rattle.verdict.specs.declared.Verdict.the-variants.{Refused}
@@ -107,21 +108,17 @@ jointly-nothing F base = go (isAccepted (verdict F base))
     go true = append-nil base
     go false = refl
 
-truth : (b : Bool) → T b → b ≡ true
-truth true h = refl
-truth false h = absurd h
-
-untruth : (b : Bool) → (T b → ⊥) → b ≡ false
-untruth true h = absurd (h tt)
-untruth false h = refl
+fails : (b : Bool) → (T b → ⊥) → b ≡ false
+fails true h = absurd (h tt)
+fails false h = refl
 
 -- Of whole texts: each answer to the two is given exactly when it is the one that is meant.
 module _ (F : Figures) (base job : List ℕ) where
-  pub base-accepted : Accepted F base → isAccepted (verdict F base) ≡ true
-  base-accepted a = truth (isAccepted (verdict F base)) (accepted-exactly F base .1 a)
+  base-accepted : Accepted F base → isAccepted (verdict F base) ≡ true
+  base-accepted a = holds (isAccepted (verdict F base)) (accepted-exactly F base .1 a)
 
   base-refused : (Accepted F base → ⊥) → isAccepted (verdict F base) ≡ false
-  base-refused n = untruth (isAccepted (verdict F base)) (λ h. n (accepted-exactly F base .0 h))
+  base-refused n = fails (isAccepted (verdict F base)) (λ h. n (accepted-exactly F base .0 h))
 
   given-of : (text : List ℕ) → jointly F base job ≡ text → (v : Verdict) (ns : List ℕ) →
       ((verdict F (jointly F base job) ≡ v) × (rests F (jointly F base job) ≡ ns)) ↔ Means F text v ns
@@ -142,7 +139,7 @@ module _ (F : Figures) (base job : List ℕ) where
 
   -- What is told by the answer to one text.
   pub joined-base : {v : Verdict} {ns : List ℕ} → T (isAccepted (verdict F base)) → verdict F (base ++ job) ≡ v → rests F (base ++ job) ≡ ns → JobMeans F base job v ns
-  joined-base {v} {ns} a e f = let j = jointly-joined F base job (truth _ a) in job-exactly v ns .0 (ap (verdict F) j ∙ e, ap (rests F) j ∙ f)
+  joined-base {v} {ns} a e f = let j = jointly-joined F base job (holds _ a) in job-exactly v ns .0 (ap (verdict F) j ∙ e, ap (rests F) j ∙ f)
 
   -- A refusal claims nothing of any set of atoms.
   refusal-sound : (H : Atom → Type 0) (text : List ℕ) (v : Verdict) (ns : List ℕ) → (T (isAccepted v) → ⊥) → SoundFor H F text v ns

@@ -249,8 +249,8 @@ fn read_on<'a>(
 {
     let whole = reach(base.len(), job.len());
     let mut state = fresh();
-    let mut first_parents = [0u16; LINES];
-    let mut second_parents = [0u16; LINES];
+    let mut used_a = [0u16; LINES];
+    let mut used_b = [0u16; LINES];
     let mut at = 0;
     let mut lines = 0;
     while at < whole {
@@ -275,8 +275,8 @@ fn read_on<'a>(
         }
         let rule = l.rule;
         let used = used_parents(rule, l.a, l.b);
-        first_parents[clauses] = used.a;
-        second_parents[clauses] = used.b;
+        used_a[clauses] = used.a;
+        used_b[clauses] = used.b;
         let added = adds(at, inputs, l);
         if added.symbol {
             state.counts[symbols] = added.k;
@@ -293,16 +293,9 @@ fn read_on<'a>(
     }
     let constant = constant_held(&state.counts, state.symbols);
     let count = state.clauses;
+    let inputs = state.inputs;
     let first = first_empty(&state.literals, count);
-    finish(
-        constant,
-        count,
-        first,
-        state.inputs,
-        &first_parents,
-        &second_parents,
-        rests,
-    )
+    finish(constant, count, first, inputs, &used_a, &used_b, rests)
 }
 
 // The verdict on a base and a job: check 1 of the base, and then the lines. The inputs on which a refutation rests are marked in rests,

@@ -51,7 +51,7 @@ returns c =
 line-ahead : (c : tie.Else1 Inv-loop μ-loop) →
     let d = c .before .before .before .before .before .before in
     let a = d .before .before .before .before .before .args in
-    Ahead (a .figures) (now (a .base)) (now (a .job)) (d .loop .at) (d .loop .lines) (d .loop .state) (d .loop .first-parents) (d .loop .second-parents)
+    Ahead (a .figures) (now (a .base)) (now (a .job)) (d .loop .at) (d .loop .lines) (d .loop .state) (d .loop .used-a) (d .loop .used-b)
 line-ahead c =
     let d = c .before .before .before .before .before .before in
     let p = d .before .before .before .before .before .pre in
@@ -63,7 +63,7 @@ line-read : (c : tie.After-failing Inv-loop μ-loop) →
     let line = see .before .before .before .before in
     let d = line .before .before .before .before .before .before .before .before in
     let a = d .before .before .before .before .before .args in
-    LineRead (a .figures) (now (a .base)) (now (a .job)) (d .loop .at) (d .loop .lines) (d .loop .state) (d .loop .first-parents) (d .loop .second-parents) (now (line .first-line .result)) (see .see .result) (c .failing .result)
+    LineRead (a .figures) (now (a .base)) (now (a .job)) (d .loop .at) (d .loop .lines) (d .loop .state) (d .loop .used-a) (d .loop .used-b) (now (line .first-line .result)) (see .see .result) (c .failing .result)
 line-read c =
     let see = c .before .before .before .before .before .before .before .before .before .before .before .before in
     let line = see .before .before .before .before in
@@ -185,8 +185,8 @@ loop-again c =
     let A = r .added z _ (c .before .adds .ensures .1) in
     let B = r .parents z _ (c .before .before .used-parents .ensures) in
     let q = ap (λ (x : List ℕ). l .at + (length x + 1)) (r .is) in (
-      length-set (l .first-parents) _ _ ∙ l .inv .0,
-      length-set (l .second-parents) _ _ ∙ l .inv .1,
+      length-set (l .used-a) _ _ ∙ l .inv .0,
+      length-set (l .used-b) _ _ ∙ l .inv .1,
       ⊎-elim
           (λ w. came-as (symbol-came _ _ _ (r .figures) (r .small) (r .ahead) (r .some) (r .number) _ z A B (w .0 .taken)) q (w .1))
           (λ w. came-as (clause-came _ _ _ (r .figures) (r .small) (r .ahead) (r .some) (r .number) _ z A B (w .0 .left)) q (w .1))
