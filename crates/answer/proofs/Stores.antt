@@ -11,7 +11,7 @@ use lib.Seq.{sets, sets-eq, take-suc, length-take-le}
 use Rattle.io.specs.Counts.{Counts}
 use Rattle.logic.specs.Descent.{numbersBelow}
 use Rattle.text.specs.Words.{lineEnd}
-use Rattle.verdict.specs.declared.Verdict.{Verdict}
+use Rattle.meaning.specs.declared.Verdict.{Verdict}
 use Rattle.answer.specs.Line.{numeral, spaced, wordLine, written}
 
 -- m is l with a in it from i on, and j is where a ends.

@@ -4,9 +4,9 @@ use Prim.Native.Nat.{ℕ}
 use mathlib.Core.List.{List, [], _∷_, _++_}
 use Rattle.text.specs.Words.{bytes, lineEnd}
 use Rattle.text.specs.Write.{putNumber}
-use Rattle.verdict.specs.declared.Verdict.{Verdict}
-use Rattle.verdict.specs.declared.Verdict.the-variants.{Refuted, Open, Refused}
-use Rattle.verdict.specs.Means.{verdictWord, numbers}
+use Rattle.meaning.specs.declared.Verdict.{Verdict}
+use Rattle.meaning.specs.declared.Verdict.the-variants.{Refuted, Open, Refused}
+use Rattle.meaning.specs.Means.{verdictWord, numbers}
 
 -- V28, T4: a number in decimal without leading zeros.
 unfoldable pub numeral : ℕ → List ℕ

@@ -5,11 +5,11 @@ ghost use mathlib.Core.List.{[], _∷_, _++_};
 ghost use lib.ListN.{length, drop};
 ghost use lib.Seq.{sets};
 ghost use Rattle.text.specs.Words.{bytes};
-ghost use Rattle.verdict.specs.Means.{named};
+ghost use Rattle.meaning.specs.Means.{named};
 ghost use Rattle.answer.specs.Line.{numeral, spaced, wordLine, verdictLine, written};
+use meaning::Answer;
+use meaning::Verdict;
 use text::LINES;
-use verdict::Answer;
-use verdict::Verdict;
 
 // Bytes enough for the longest answer: a line of at most 64 bytes, and one of a word and 1,024 numbers of at most four digits.
 pub const ROOM: usize = 8192;

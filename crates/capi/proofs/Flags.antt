@@ -10,7 +10,7 @@ use lib.ListN.{length, drop, set, getD, length-append, length-set}
 use lib.Seq.{drop-cons, drop-length, set-at}
 use Rattle.logic.specs.Descent.{among, numbersBelow}
 use Rattle.logic.proofs.Descending.{member→among, among→member, numbers-below, below-numbers}
-use Rattle.verdict.specs.Means.{named}
+use Rattle.meaning.specs.Means.{named}
 use Rattle.capi.specs.Numbered.{flag, flags, Flagged}
 
 same-test : (a b : Bool) → (T a → T b) → (T b → T a) → a ≡ b

@@ -5,9 +5,9 @@ use mathlib.Core.List.{List, [], _∷_, _++_}
 use mathlib.Core.Path.{_≡_}
 use lib.ListN.{length, drop, getD}
 use Rattle.logic.specs.Descent.{among}
-use Rattle.verdict.specs.declared.Verdict.{Verdict}
-use Rattle.verdict.specs.declared.Verdict.the-variants.{Refuted, Open, Refused}
-use Rattle.verdict.specs.Means.{numbers}
+use Rattle.meaning.specs.declared.Verdict.{Verdict}
+use Rattle.meaning.specs.declared.Verdict.the-variants.{Refuted, Open, Refused}
+use Rattle.meaning.specs.Means.{numbers}
 
 -- V29: the word is 0 for refused, 1 for open, 2 for refuted.
 unfoldable pub wordNumber : Verdict → ℕ

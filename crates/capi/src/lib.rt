@@ -3,11 +3,11 @@ ghost use Prim.Native.Nat.{_≤_};
 ghost use mathlib.Core.Path.{_≡_};
 ghost use lib.ListN.{length};
 ghost use Rattle.text.specs.Figures.{office};
-ghost use Rattle.verdict.specs.Means.{named};
-ghost use Rattle.verdict.specs.Answer.{verdict, rests as restsOf, jointly};
+ghost use Rattle.meaning.specs.Means.{named};
+ghost use Rattle.meaning.specs.Answer.{verdict, rests as restsOf, jointly};
 ghost use Rattle.capi.specs.Numbered.{wordNumber, firstNumber, secondNumber, flag, flags, Flagged};
+use meaning::Verdict;
 use text::LINES;
-use verdict::Verdict;
 
 fn word(v: Verdict) -> u32
     ensures { λ r. ⌜ r ≡ wordNumber v ⌝ }

@@ -2,7 +2,7 @@
 ghost use Rattle.io.specs.Counts.{Counts};
 use answer::ROOM;
 use libc::STDOUT_FILENO;
-use verdict::Answer;
+use meaning::Answer;
 
 // Reads into text until it is full, the input ends or a read fails, answers how many bytes it put there, and leaves in failed whether a
 // read failed. A buffer that has one byte more than a text may have is enough: where it is full the text has too many, which a check sees

@@ -3,7 +3,7 @@
 ghost use Prim.Native.Nat.{_<_};
 ghost use Rattle.io.specs.Counts.{Counts};
 use libc::STDERR_FILENO;
-use verdict::Answer;
+use meaning::Answer;
 
 fn wide(x: u8) -> usize
     ensures { λ r. ⌜ r < 256 ⌝ }

@@ -1,4 +1,4 @@
--- Checks 2 to 6 as a number. Nothing here has to be believed: `verdict-exactly` (crates/verdict/proofs/Meaning) says that the verdict that
+-- Checks 2 to 6 as a number. Nothing here has to be believed: `verdict-exactly` (crates/meaning/proofs/Meaning) says that the verdict that
 -- is computed by it is the one that is meant.
 use Prim.Native.Nat.{ℕ}
 use mathlib.Core.Bool.{cond}

@@ -91,7 +91,7 @@ pub fn fresh() -> HeldState
 }
 
 // Whether some symbol takes no terms.
-pub fn has_constant(table: &[u8]) -> bool
+fn has_constant(table: &[u8]) -> bool
     ensures { λ r. ⌜ r ≡ hasConstant (now (table .entry)) ⌝ }
     ensures { λ _. ⌜ now (table .exit) ≡ now (table .entry) ⌝ }
 {
@@ -106,7 +106,7 @@ pub fn has_constant(table: &[u8]) -> bool
 }
 
 // The argument counts of the first `symbols` symbols.
-pub fn table(counts: &[u8], symbols: usize) -> &[u8]
+fn table(counts: &[u8], symbols: usize) -> &[u8]
     ensures { λ r. ⌜ now r ≡ take symbols (now (counts .entry)) ⌝ }
     ensures { λ _. ⌜ now (counts .exit) ≡ now (counts .entry) ⌝ }
 {
@@ -114,6 +114,14 @@ pub fn table(counts: &[u8], symbols: usize) -> &[u8]
         return counts;
     }
     &counts[..symbols]
+}
+
+// Whether some symbol of those held takes no terms.
+pub fn constant_held(counts: &[u8], symbols: usize) -> bool
+    ensures { λ r. ⌜ r ≡ hasConstant (take symbols (now (counts .entry))) ⌝ }
+    ensures { λ _. ⌜ now (counts .exit) ≡ now (counts .entry) ⌝ }
+{
+    has_constant(table(counts, symbols))
 }
 
 // Checks 4 to 6 of a line with a clause.

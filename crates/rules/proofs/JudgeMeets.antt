@@ -32,7 +32,7 @@ use Rattle.text.proofs.Deep.{formedSymbol, each-numbered, entries-over, formed-
 use Rattle.text.proofs.Heads.{strip-same}
 use Rattle.lines.proofs.LineParts.{first-place, second-place, claim-place}
 use Rattle.text.proofs.Sound.{line-sound}
-use Rattle.table.specs.Uses.{parentNumbers, unusedNumbers}
+use Rattle.uses.specs.Uses.{parentNumbers, unusedNumbers}
 use Rattle.parts.specs.Shapes.{stripAt}
 use Rattle.rules.specs.declared.steps.Size.{Size}
 use Rattle.rules.specs.Judging.{listsAt, concludeAt, settledAs, fillingPlaces, stepAt, HoldsClause, Judges}

@@ -21,7 +21,7 @@ use Rattle.lines.specs.declared.forms.LineAt.{LineAt}
 use Rattle.lines.specs.LineAt.{lineOf}
 use Rattle.parts.specs.Shapes.{placeAt, listAt}
 use Rattle.rules.specs.declared.steps.Size.{Size}
-use Rattle.table.specs.Uses.{parentNumbers, unusedNumbers}
+use Rattle.uses.specs.Uses.{parentNumbers, unusedNumbers}
 use Rattle.table.specs.Rows.{rowAt}
 use Rattle.rules.specs.Claim.{claimAt}
 

@@ -1,4 +1,2 @@
-// The rule tables: which numbers each rule uses, with checks 7 and 8, and what it asks of its literals, with checks 9 and 10.
-mod order;
+// The rule table: what each rule asks of its literals, with checks 9 and 10.
 pub mod rows;
-pub mod uses;

@@ -1,5 +1,4 @@
 // Checks 9 and 10: the rule table. The literals at I and J begin at the places x of clause a and y of clause b.
-use crate::order::row;
 use filling::agree::agree;
 use filling::agree::calls;
 use filling::agree::covers;
@@ -20,6 +19,7 @@ use parts::shapes::scalar;
 use parts::shapes::signature;
 use parts::shapes::value;
 use parts::shapes::within;
+use uses::row;
 ghost use mathlib.Core.Path.{_≡_};
 ghost use mathlib.Core.Bool.{cond};
 ghost use Rattle.table.specs.Rows.{rowOf, partAt, foundBy, resolved, factored, replaced, crossed, called, denying, agreesBy};

@@ -6,12 +6,12 @@ use mathlib.Core.List.{List, [], _∷_, _++_}
 use native.Mathlib.Omega.{arith}
 use borrow.Author.Tests.{eq-eqb, ne-eqb, lt-ltb, le-ltb, ltb-false}
 use lib.Dec.{T, eqb, ltb, eqb→eq}
-use lib.ListN.{length, getD, take, drop, length-drop}
+use lib.ListN.{length, getD, take, drop, length-take, length-drop}
 use lib.Seq.{take-all, drop-drop}
 use native.Mathlib.Nat.{suc-add}
 use Rattle.text.specs.Words.{lineEnd}
 use Rattle.text.specs.Split.{Raw, ended, unended, push, split}
-use Rattle.text.specs.Size.{lineLength, partAt, lineEndCount, lineCount}
+use Rattle.text.specs.Size.{lineLength, firstLine, partAt, lineEndCount, lineCount}
 use Rattle.text.proofs.Tests.{T-and, onTest}
 use Rattle.text.proofs.Plain.{unbroken}
 use Rattle.text.proofs.Places.{at-byte, past}
@@ -110,6 +110,19 @@ split-at bs h = ap split (line-rest bs h) ∙ split-line (take (lineLength bs) b
 
 pub split-over : (b : ℕ) (bs : List ℕ) → length (b ∷ bs) ≤ lineLength (b ∷ bs) → split (b ∷ bs) ≡ unended (b ∷ bs) ∷ []
 split-over b bs h = split-end b bs (rw (take-all (lineLength (b ∷ bs)) (b ∷ bs) h) at (line-front (b ∷ bs)))
+
+-- The first line, ended and not.
+module _ (text : List ℕ) where
+  pub bytes-ended : lineLength text < length text → firstLine text ≡ take (lineLength text) text
+  unfolding firstLine
+  bytes-ended l = rw (lt-ltb (lineLength text) (length text) l)
+
+  pub bytes-unended : length text ≤ lineLength text → firstLine text ≡ []
+  unfolding firstLine
+  bytes-unended l = rw (le-ltb (lineLength text) (length text) l)
+
+  pub bytes-length : lineLength text < length text → length (firstLine text) ≡ lineLength text
+  bytes-length l = omega (arith, ap length (bytes-ended l), length-take (lineLength text) text)
 
 -- Of two texts in a row: within what stands from a place on, the same text holds what follows.
 pub part-on : (base job : List ℕ) (at k : ℕ) → k < length (partAt base job at) → partAt base job (at + k) ≡ drop k (partAt base job at)

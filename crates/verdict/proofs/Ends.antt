@@ -18,10 +18,10 @@ use Rattle.logic.specs.Reach.{ParentsFall}
 use Rattle.text.specs.Figures.{office}
 use Rattle.descent.specs.Walk.{inputsFrom}
 use Rattle.descent.proofs.Walking.{walk-rests}
-use Rattle.verdict.specs.declared.Verdict.{Verdict}
-use Rattle.verdict.specs.declared.Verdict.the-variants.{Refuted, Open, Refused}
-use Rattle.verdict.specs.Means.{named}
-use Rattle.verdict.specs.Answer.{isNil, firstEmpty, acceptedAs, finish, restsIn}
+use Rattle.meaning.specs.declared.Verdict.{Verdict}
+use Rattle.meaning.specs.declared.Verdict.the-variants.{Refuted, Open, Refused}
+use Rattle.meaning.specs.Means.{named}
+use Rattle.meaning.specs.Answer.{isNil, firstEmpty, acceptedAs, finish, restsIn}
 use Rattle.verdict.specs.Running.{Parented}
 
 -- A clause without literals.

@@ -1,13 +1,4 @@
-pub mod Meaning
-pub mod Examples
-pub mod Entailed
-pub mod Accepts
-pub mod Guaranteed
-pub mod Staying
-pub mod Worked
 pub mod Ends
 pub mod Judging
 pub mod Running
-pub mod Jobs
-pub mod Corners
 pub mod TwoTexts

@@ -33,15 +33,15 @@ use Rattle.reader.specs.ReadLine.{heldTable, withAdded, slotOf}
 use Rattle.reader.specs.State.{State, fresh, claimOf, clauses, hasConstant, advance, ordered, constantReady, withinLimits, symbolsDeclared, after, stateAfter}
 use Rattle.reader.specs.Failure.{lineFailure, readFailure}
 use Rattle.reader.specs.Represents.{Represents, Begins, Sees, LineStands, Adds}
-use Rattle.text.proofs.Sizes.{split-at, split-over}
-use Rattle.verdict.specs.declared.Verdict.{Verdict}
-use Rattle.verdict.specs.declared.Verdict.the-variants.{Refused}
+use Rattle.text.proofs.Sizes.{bytes-ended, bytes-unended, bytes-length, split-at, split-over}
+use Rattle.meaning.specs.declared.Verdict.{Verdict}
+use Rattle.meaning.specs.declared.Verdict.the-variants.{Refused}
 use Rattle.verdict.specs.declared.HeldClause.{HeldClause}
-use Rattle.verdict.specs.Checks.{readings, stateOf}
-use Rattle.verdict.specs.Answer.{stepFailure, failure, firstEmpty, finish, readOn, restsIn}
+use Rattle.meaning.specs.Checks.{readings, stateOf}
+use Rattle.meaning.specs.Answer.{stepFailure, failure, firstEmpty, finish, readOn, restsIn}
 use Rattle.verdict.specs.Running.{HeldOf, JudgesRead, FirstFailing, Parented, Finishes}
 use Rattle.verdict.proofs.Ends.{clause-count}
-use Rattle.verdict.proofs.Entailed.{Good, good-fresh, good-after, empty-list}
+use Rattle.meaning.proofs.Entailed.{Good, good-fresh, good-after, empty-list}
 
 -- Checks 2 to 6, and then those of a step.
 unfoldable Then : ℕ → ℕ → ℕ → Type 0
@@ -112,18 +112,6 @@ module _ {depth : ℕ} {part : ℕ → List ℕ} {held : code.HeldState} {st : S
       q ∙ ap judgedNumber m ∙ sym (passed-then st (form (by p)) k) ∙ ap (failure st) (sym r)
 
 -- The first line of what is left to read.
-module _ (text : List ℕ) where
-  pub bytes-ended : lineLength text < length text → firstLine text ≡ take (lineLength text) text
-  unfolding firstLine
-  bytes-ended l = rw (lt-ltb (lineLength text) (length text) l)
-
-  pub bytes-unended : length text ≤ lineLength text → firstLine text ≡ []
-  unfolding firstLine
-  bytes-unended l = rw (le-ltb (lineLength text) (length text) l)
-
-  bytes-length : lineLength text < length text → length (firstLine text) ≡ lineLength text
-  bytes-length l = omega (arith, ap length (bytes-ended l), length-take (lineLength text) text)
-
 split-unended : (text : List ℕ) → 0 < length text → length text ≤ lineLength text → split text ≡ unended text ∷ []
 split-unended [] h l = absurd (omega arith)
 split-unended (b ∷ bs) h l = split-over b bs l

@@ -26,15 +26,15 @@ use Rattle.text.proofs.Sizes.{part-on}
 use Rattle.reader.specs.ReadLine.{heldTable, withSymbol, withClause, withAdded}
 use Rattle.reader.specs.State.{State, fresh, clauses, hasConstant, after}
 use Rattle.reader.specs.Represents.{Represents, Begins, LineStands, Adds}
-use Rattle.verdict.specs.declared.Verdict.{Verdict}
-use Rattle.verdict.specs.declared.Verdict.the-variants.{Refuted, Open, Refused}
-use Rattle.verdict.specs.Checks.{readings, stateOf}
-use Rattle.verdict.specs.Guarantee.{isAccepted}
-use Rattle.verdict.specs.Answer.{failure, firstEmpty, acceptedAs, finish, readOn, verdict, restsIn, rests, jointly}
+use Rattle.meaning.specs.declared.Verdict.{Verdict}
+use Rattle.meaning.specs.declared.Verdict.the-variants.{Refuted, Open, Refused}
+use Rattle.meaning.specs.Checks.{readings, stateOf}
+use Rattle.meaning.specs.Guarantee.{isAccepted}
+use Rattle.meaning.specs.Answer.{failure, firstEmpty, acceptedAs, finish, readOn, verdict, restsIn, rests, jointly}
 use Rattle.verdict.specs.Running.{Parented, Finishes, leftOf, seamFailure, Answers}
 use Rattle.verdict.proofs.Ends.{symbols-within}
 use Rattle.verdict.proofs.Running.{Reached, text-within, reached-first, line-refused, line-within, line-before, clause-room, reached-after, reached-end, finished, no-length}
-use Rattle.verdict.proofs.Jobs.{read-verdict, lines-append, read-joined, state-joined, jointly-alone, jointly-joined, jointly-nothing}
+use Rattle.meaning.proofs.Jobs.{read-verdict, lines-append, read-joined, state-joined, jointly-alone, jointly-joined, jointly-nothing}
 
 -- Which text is read, and what is left of it at a place of the two.
 pub record Alone (base : List ℕ) (at : ℕ) (text rest : List ℕ) : Type 0 where
@@ -412,5 +412,6 @@ pub record LineRead (F : Figures) (base job : List ℕ) (at lines : ℕ) (held :
   pub parents : n ≡ 0 → (p : Parents) → p ≡ parentsBy (s .line .rule) (s .line .a) (s .line .b) →
       Parented (after (ahead .reached .st) (readLine (F .depth) (firstLine (ahead .rest)))) (set ps (held .clauses) (p .a)) (set qs (held .clauses) (p .b))
 
-pub came-as : {F : Figures} {base job : List ℕ} {p q lines : ℕ} {held next : code.HeldState} {ps qs : List ℕ} → Came F base job p lines held ps qs → q ≡ p → next ≡ held → Came F base job q lines next ps qs
-came-as P e f = rw (e, f) P
+pub came-as : {F : Figures} {base job : List ℕ} {p q lines next-lines : ℕ} {held next : code.HeldState} {ps qs : List ℕ} → Came F base job p lines held ps qs →
+    q ≡ p → next-lines ≡ lines → next ≡ held → Came F base job q next-lines next ps qs
+came-as P e l f = rw (e, l, f) P

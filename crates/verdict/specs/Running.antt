@@ -22,10 +22,10 @@ use Rattle.reader.specs.State.{State, clauses, hasConstant}
 use Rattle.reader.specs.Represents.{Represents}
 use Rattle.reader.specs.ReadLine.{heldTable}
 use Rattle.reader.specs.Failure.{readFailure}
-use Rattle.verdict.specs.declared.Verdict.{Verdict}
+use Rattle.meaning.specs.declared.Verdict.{Verdict}
 use Rattle.verdict.specs.declared.HeldClause.{HeldClause}
-use Rattle.verdict.specs.Checks.{tooLarge}
-use Rattle.verdict.specs.Answer.{failure, firstEmpty, finish, restsIn, verdict, rests, jointly}
+use Rattle.meaning.specs.Checks.{tooLarge}
+use Rattle.meaning.specs.Answer.{failure, firstEmpty, finish, restsIn, verdict, rests, jointly}
 
 -- What is held of clause n, if there is one.
 unfoldable pub HeldOf : code.HeldState → ℕ → HeldClause → Type 0

@@ -6,22 +6,23 @@ use lines::forms::LineAt;
 use lines::forms::STEP;
 use lines::forms::form_number;
 use logic::Judged;
+use meaning::Answer;
+use meaning::Verdict;
 use reader::states::Seen;
 use reader::states::adds;
+use reader::states::constant_held;
 use reader::states::fresh;
-use reader::states::has_constant;
 use reader::states::see;
 use reader::states::slot;
-use reader::states::table;
 use rules::steps::Size;
 use rules::steps::judge;
-use scan::texts::line_length;
-use scan::texts::part_at;
-use scan::texts::too_large;
 use text::BYTES;
 use text::DEPTH;
 use text::Figures;
 use text::LINES;
+use texts::first_line;
+use texts::part_at;
+use texts::too_large;
 ghost use Prim.Native.Nat.{_+_, _≤_, min};
 ghost use mathlib.Core.Path.{_≡_};
 ghost use mathlib.Core.Bool.{false};
@@ -29,30 +30,13 @@ ghost use mathlib.Core.List.{[]};
 ghost use lib.ListN.{length, take};
 ghost use Rattle.logic.specs.StepChecks.{judgedNumber};
 ghost use Rattle.text.specs.Figures.{office, UpToOffice};
-ghost use Rattle.reader.specs.State.{hasConstant};
-ghost use Rattle.text.specs.Size.{firstLine, partAt};
-ghost use Rattle.verdict.specs.Checks.{tooLarge};
-ghost use Rattle.verdict.specs.Means.{Means, named};
-ghost use Rattle.verdict.specs.Answer.{verdict, rests, jointly};
-ghost use Rattle.verdict.specs.Guarantee.{Guarantee};
-ghost use Rattle.verdict.specs.Job.{JobMeans, JobGuarantee};
+ghost use Rattle.text.specs.Size.{partAt};
+ghost use Rattle.meaning.specs.Checks.{tooLarge};
+ghost use Rattle.meaning.specs.Means.{Means, named};
+ghost use Rattle.meaning.specs.Answer.{verdict, rests, jointly};
+ghost use Rattle.meaning.specs.Guarantee.{Guarantee};
+ghost use Rattle.meaning.specs.Job.{JobMeans, JobGuarantee};
 ghost use Rattle.verdict.specs.Running.{JudgesRead, FirstFailing, FindsEmpty, Finishes, seamFailure, Answers};
-
-// What is found of a text.
-pub enum Verdict {
-    // Accepted: the number of clauses, and the number of the first empty one.
-    Refuted { count: usize, first: usize },
-    // Accepted, and no clause is empty: the number of clauses.
-    Open { count: usize },
-    // The first failing check of the first failing line, and that line.
-    Refused { number: usize, line: usize },
-}
-
-// The answer to a text: the verdict, and the inputs on which a refutation rests, by clause number.
-pub struct Answer {
-    pub verdict: Verdict,
-    pub rests: [bool; LINES],
-}
 
 // What the reading holds of a clause: its place, its number of literals and its width.
 struct HeldClause {
@@ -83,17 +67,6 @@ fn number(j: Judged) -> usize
         Judged::Disagrees => 10,
         Judged::WrongClaim => 11,
     }
-}
-
-// The bytes of the first line; none, which are no form, where the text ends before the line does.
-fn first_line(text: &[u8]) -> &[u8]
-    ensures { λ r. ⌜ now r ≡ firstLine (now (text .entry)) ⌝ }
-{
-    let end = line_length(text);
-    if end >= text.len() {
-        return &text[0..0];
-    }
-    &text[..end]
 }
 
 // Checks 7 to 11 of a step, by what the reading holds of its parents.
@@ -146,13 +119,6 @@ fn failing<'a>(
         return 0;
     }
     number(judged(depth, base, job, own, a, b, line, l))
-}
-
-// Whether some symbol of those held takes no terms.
-fn constant_held(counts: &[u8], symbols: usize) -> bool
-    ensures { λ r. ⌜ r ≡ hasConstant (take symbols (now (counts .entry))) ⌝ }
-{
-    has_constant(table(counts, symbols))
 }
 
 // The number of the first empty clause, or of all clauses where none is empty.

@@ -5,7 +5,7 @@ use native.Mathlib.Nat.{add-zero}
 use native.Mathlib.Omega.{arith}
 use denote.Ref.{now}
 use borrow.Author.Needs.{needs}
-use Rattle.verdict.specs.Means.{named}
+use Rattle.meaning.specs.Means.{named}
 use Rattle.answer.specs.Line.{verdictLine, restsLine, written}
 use Rattle.answer.proofs.Stores.{both-start}
 use Rattle.answer.proofs.lines.Statement.{statement}

@@ -9,7 +9,7 @@ use mathlib.Core.List.{List, _∷_}
 use native.Mathlib.Omega.{arith}
 use lib.ListN.{getD}
 use Rattle.logic.specs.Descent.{numbersBelow}
-use Rattle.verdict.specs.Means.{named}
+use Rattle.meaning.specs.Means.{named}
 use Rattle.answer.specs.Line.{numeral, spaced}
 use Rattle.answer.proofs.Digits.{numeral-short}
 use Rattle.answer.proofs.Stores.{Stored, both-stored, more-spaced, none-more}

@@ -5,7 +5,7 @@ use native.Mathlib.Omega.{arith}
 use denote.Ref.{now}
 use borrow.Author.Needs.{needs}
 use Rattle.text.specs.Words.{bytes}
-use Rattle.verdict.specs.Means.{named}
+use Rattle.meaning.specs.Means.{named}
 use Rattle.answer.proofs.Stores.{line-stored}
 use Rattle.answer.proofs.put_rests.Statement.{statement}
 use Rattle.answer.proofs.put_rests.Tie as tie

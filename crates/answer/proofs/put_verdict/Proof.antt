@@ -2,7 +2,7 @@
 -- Assumes nothing.
 use native.Mathlib.Omega.{arith}
 use borrow.Author.Needs.{needs}
-use Rattle.verdict.specs.Means.{verdictWord, numbers}
+use Rattle.meaning.specs.Means.{verdictWord, numbers}
 use Rattle.answer.specs.Line.{verdictLine}
 use Rattle.answer.proofs.put_verdict.Statement.{statement}
 use Rattle.answer.proofs.put_verdict.Tie as tie

@@ -5,8 +5,8 @@ use denote.Ref.{now}
 use native.Mathlib.Omega.{arith}
 use lib.ListN.{length}
 use Rattle.text.specs.Figures.{office}
-use Rattle.verdict.specs.Answer.{verdict, rests}
-use Rattle.verdict.proofs.Jobs.{jointly-nothing}
+use Rattle.meaning.specs.Answer.{verdict, rests}
+use Rattle.meaning.proofs.Jobs.{jointly-nothing}
 use Rattle.capi.specs.Numbered.{wordNumber, firstNumber, secondNumber, flags}
 use Rattle.capi.proofs.Flags.{length-flags}
 use Rattle.capi.proofs.fcheck_check.Statement.{statement}

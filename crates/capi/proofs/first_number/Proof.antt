@@ -2,7 +2,7 @@
 -- Assumes nothing.
 use mathlib.Core.Path.{sym, ap}
 use borrow.Author.Needs.{needs}
-use Rattle.verdict.specs.Means.{numbers}
+use Rattle.meaning.specs.Means.{numbers}
 use Rattle.capi.specs.Numbered.{firstNumber}
 use Rattle.capi.proofs.first_number.Statement.{statement}
 use Rattle.capi.proofs.first_number.Tie as tie

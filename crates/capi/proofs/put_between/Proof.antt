@@ -5,7 +5,7 @@ use mathlib.Core.Path.{_≡_, refl, subst, _∙_}
 use mathlib.Core.List.{List}
 use native.Mathlib.Omega.{arith}
 use lib.ListN.{length, set, length-set}
-use Rattle.verdict.specs.Means.{named}
+use Rattle.meaning.specs.Means.{named}
 use Rattle.capi.specs.Numbered.{Flagged}
 use Rattle.capi.proofs.Flags.{flagged-none, flagged-more}
 use Rattle.capi.proofs.put_between.Statement.{statement}

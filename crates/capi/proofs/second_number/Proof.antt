@@ -2,7 +2,7 @@
 -- Assumes nothing.
 use mathlib.Core.Path.{sym, ap}
 use borrow.Author.Needs.{needs}
-use Rattle.verdict.specs.Means.{numbers}
+use Rattle.meaning.specs.Means.{numbers}
 use Rattle.capi.specs.Numbered.{secondNumber}
 use Rattle.capi.proofs.second_number.Statement.{statement}
 use Rattle.capi.proofs.second_number.Tie as tie

@@ -3,9 +3,9 @@ use mathlib.Core.Path.{ap, _∙_}
 use denote.Ref.{now}
 use native.Mathlib.Omega.{arith}
 use Rattle.text.specs.Figures.{office}
-use Rattle.verdict.specs.Answer.{verdict, rests}
-use Rattle.verdict.proofs.Guaranteed.{answered}
-use Rattle.verdict.proofs.Jobs.{jointly-nothing}
+use Rattle.meaning.specs.Answer.{verdict, rests}
+use Rattle.meaning.proofs.Guaranteed.{answered}
+use Rattle.meaning.proofs.Jobs.{jointly-nothing}
 use Rattle.verdict.proofs.check.Statement.{statement}
 use Rattle.verdict.proofs.check.Tie as tie
 

@@ -8,9 +8,9 @@ use lib.ListN.{replicate}
 use Rattle.logic.proofs.Descending.{numbers-none}
 use Rattle.text.specs.Figures.{office}
 use Rattle.descent.proofs.Marks.{none-marked}
-use Rattle.verdict.specs.Means.{named}
+use Rattle.meaning.specs.Means.{named}
 use Rattle.verdict.specs.Running.{Answers}
-use Rattle.verdict.proofs.Jobs.{job-answered}
+use Rattle.meaning.proofs.Jobs.{job-answered}
 use Rattle.verdict.proofs.check_job.Statement.{statement}
 use Rattle.verdict.proofs.check_job.Tie as tie
 

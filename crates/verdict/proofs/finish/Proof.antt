@@ -3,8 +3,8 @@ use Prim.Native.Nat.{_<_}
 use mathlib.Core.Path.{refl, sym, ap, _∙_}
 use native.Mathlib.Omega.{arith}
 use borrow.Author.Tests.{not-true, not-false}
-use Rattle.verdict.specs.declared.Verdict.the-variants.{Refuted, Open}
-use Rattle.verdict.specs.Answer.{restsIn}
+use Rattle.meaning.specs.declared.Verdict.the-variants.{Refuted, Open}
+use Rattle.meaning.specs.Answer.{restsIn}
 use Rattle.verdict.specs.Running.{Finishes}
 use Rattle.verdict.proofs.Ends.{finish-refused, finish-refuted, finish-open, named-none, named-walked}
 use Rattle.verdict.proofs.finish.Statement.{statement}

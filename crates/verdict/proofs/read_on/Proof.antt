@@ -77,7 +77,7 @@ line-read c =
     let some = part-some (now (a .base)) (now (a .job)) (d .loop .at) (office .bytes + 1) (omega (arith, d .before .before .reach .ensures, j .before .before .before .before .before .loop-test .taken)) in
     let ha = held-of (d .loop .state) (s .line .a) (held-within P) (c .before .before .before .before .before .before .before .before .before .before .slot .ensures) (c .before .before .before .before .before .before .held .ensures) in
     let hb = held-of (d .loop .state) (s .line .b) (held-within P) (c .before .before .before .before .before .slot2 .ensures) (c .before .held2 .ensures) in
-    let e : now (line .first-line .result) ≡ firstLine (A .rest) = line .first-line .ensures ∙ ap firstLine (line .before .part-at .ensures .0 ∙ sym (A .stage .1)) in
+    let e : now (line .first-line .result) ≡ firstLine (A .rest) = line .first-line .ensures .0 ∙ ap firstLine (line .before .part-at .ensures .0 ∙ sym (A .stage .1)) in
     let S = see .see .ensures .1 .0 in
     let n = line-number P e s S _ _ ha hb _ (c .failing .ensures) in
     record {
@@ -188,8 +188,8 @@ loop-again c =
       length-set (l .used-a) _ _ ∙ l .inv .0,
       length-set (l .used-b) _ _ ∙ l .inv .1,
       ⊎-elim
-          (λ w. came-as (symbol-came _ _ _ (r .figures) (r .small) (r .ahead) (r .some) (r .number) _ z A B (w .0 .taken)) q (w .1))
-          (λ w. came-as (clause-came _ _ _ (r .figures) (r .small) (r .ahead) (r .some) (r .number) _ z A B (w .0 .left)) q (w .1))
+          (λ w. came-as (symbol-came _ _ _ (r .figures) (r .small) (r .ahead) (r .some) (r .number) _ z A B (w .0 .taken)) q refl (w .1))
+          (λ w. came-as (clause-came _ _ _ (r .figures) (r .small) (r .ahead) (r .some) (r .number) _ z A B (w .0 .left)) q refl (w .1))
           (c .if3 .came),
     )
 
@@ -210,7 +210,7 @@ returns-3 c =
     let p = l .before .before .before .before .before .pre in
     let P = l .loop .inv .2 in
     let first = f .first-empty .ensures (a .figures .depth) (partAt (now (a .base)) (now (a .job))) (l .loop .state) (P .reached .st) (P .reached .holds) refl refl in
-    came-end _ _ _ (p .1) (p .0) P (omega (arith, l .before .before .reach .ensures, e .loop-test .left)) _ _ _ _ _ (c .finish .ensures) (f .before .before .before .before .constant-held .ensures) first (p .2)
+    came-end _ _ _ (p .1) (p .0) P (omega (arith, l .before .before .reach .ensures, e .loop-test .left)) _ _ _ _ _ (c .finish .ensures) (f .before .before .before .before .constant-held .ensures .0) first (p .2)
 
 pub read-on-spec : {M : Type 1} → statement M
 read-on-spec =

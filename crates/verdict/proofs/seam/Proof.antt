@@ -11,19 +11,19 @@ returns c = rw (ne-eqb _ _ (c .if1 .taken))
 
 returns-2 : tie.Need-returns-2
 unfolding seamFailure
-returns-2 c = rw (eq-eqb _ _ (c .before .before .if1 .left), sym (c .before .constant-held .ensures) ∙ not-true _ (c .if2 .taken))
+returns-2 c = rw (eq-eqb _ _ (c .before .before .if1 .left), sym (c .before .constant-held .ensures .0) ∙ not-true _ (c .if2 .taken))
 
 returns-3 : tie.Need-returns-3
 unfolding seamFailure leftOf
 returns-3 c =
     let d = c .before .before .before .before in
-    rw (eq-eqb _ _ (d .before .before .if1 .left), sym (d .before .constant-held .ensures) ∙ not-false _ (d .if2 .left), sym (c .before .too-large .ensures .0) ∙ c .if3 .taken)
+    rw (eq-eqb _ _ (d .before .before .if1 .left), sym (d .before .constant-held .ensures .0) ∙ not-false _ (d .if2 .left), sym (c .before .too-large .ensures .0) ∙ c .if3 .taken)
 
 returns-4 : tie.Need-returns-4
 unfolding seamFailure leftOf
 returns-4 c =
     let d = c .before .before .before .before in
-    rw (eq-eqb _ _ (d .before .before .if1 .left), sym (d .before .constant-held .ensures) ∙ not-false _ (d .if2 .left), sym (c .before .too-large .ensures .0) ∙ c .if3 .left)
+    rw (eq-eqb _ _ (d .before .before .if1 .left), sym (d .before .constant-held .ensures .0) ∙ not-false _ (d .if2 .left), sym (c .before .too-large .ensures .0) ∙ c .if3 .left)
 
 pub seam-spec : {M : Type 1} → statement M
 seam-spec =

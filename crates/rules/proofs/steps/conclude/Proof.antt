@@ -1,4 +1,4 @@
-use Rattle.table.specs.Uses.{usesAt}
+use Rattle.uses.specs.Uses.{usesAt}
 use Rattle.table.specs.Rows.{rowAt}
 use Rattle.rules.specs.Claim.{claimAt}
 use Rattle.rules.specs.Judging.{concludeAt}

@@ -8,7 +8,7 @@ use mathlib.Core.Path.{_≡_, sym, subst, _∙_, refl}
 use Rattle.logic.specs.declared.Judged.{Judged}
 use Rattle.lines.specs.declared.forms.LineAt.{LineAt}
 use Rattle.rules.specs.declared.steps.Size.{Size}
-use Rattle.table.specs.Uses.{usesAt}
+use Rattle.uses.specs.Uses.{usesAt}
 use Rattle.rules.specs.Judging.{stepAt, Judges}
 use Rattle.rules.proofs.JudgeMeets.{judge-meets}
 use Rattle.rules.proofs.steps.judge.Statement.{statement}

@@ -4,7 +4,7 @@ use lib.ListN.{getD}
 use Rattle.logic.specs.declared.Rule.{Rule}
 use Rattle.logic.specs.declared.Rule.the-variants.{Refl}
 use Rattle.table.specs.Rows.{rowOf}
-use Rattle.table.proofs.Flags.{rules, placed, carried}
+use Rattle.uses.proofs.Flags.{rules, placed, carried}
 use Rattle.table.proofs.rows.table_row.Statement.{statement}
 use Rattle.table.proofs.rows.table_row.Tie as tie
 

@@ -1,0 +1,9 @@
+pub mod Meaning
+pub mod Examples
+pub mod Entailed
+pub mod Accepts
+pub mod Guaranteed
+pub mod Staying
+pub mod Jobs
+pub mod Corners
+pub mod Worked
