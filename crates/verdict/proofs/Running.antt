@@ -7,9 +7,9 @@ use mathlib.Core.Path.{_≡_, refl, sym, ap, _∙_}
 use native.Mathlib.Omega.{arith}
 use native.Mathlib.Numerals.{add-one}
 use native.Mathlib.Decide.{ℕ-discrete, decLt}
-use borrow.Author.Tests.{eq-eqb, ne-eqb, lt-ltb, le-ltb, ltb-true, ltb-false}
+use borrow.Author.Tests.{eq-eqb, ne-eqb, lt-ltb, ltb-true, ltb-false}
 use lib.Dec.{T, ltb}
-use lib.ListN.{length, getD, set, take, drop, length-append, length-map, length-take, take-append-drop}
+use lib.ListN.{length, getD, set, take, drop, length-append, length-map, take-append-drop}
 use lib.Seq.{getD-set-same, getD-set-other}
 use Rattle.logic.specs.declared.Judged.{Judged}
 use Rattle.logic.specs.Syntax.{Step, Line, by, input}
@@ -18,6 +18,7 @@ use Rattle.logic.specs.StepChecks.{judgedNumber}
 use Rattle.logic.proofs.Descending.{given-falls}
 use Rattle.descent.specs.declared.Parents.{Parents}
 use Rattle.descent.specs.Walk.{parentsBy, parentsOf, HeldFrom}
+use Rattle.ends.specs.Ends.{firstZero, endsAs, marksAs}
 use Rattle.lines.specs.declared.forms.LineAt.{LineAt}
 use Rattle.reader.specs.declared.states.HeldState as code
 use Rattle.reader.specs.declared.states.Seen.{Seen}
@@ -38,9 +39,10 @@ use Rattle.meaning.specs.declared.Verdict.{Verdict}
 use Rattle.meaning.specs.declared.Verdict.the-variants.{Refused}
 use Rattle.verdict.specs.declared.HeldClause.{HeldClause}
 use Rattle.meaning.specs.Checks.{readings, stateOf}
-use Rattle.meaning.specs.Answer.{stepFailure, failure, firstEmpty, finish, readOn, restsIn}
-use Rattle.verdict.specs.Running.{HeldOf, JudgesRead, FirstFailing, Parented, Finishes}
-use Rattle.verdict.proofs.Ends.{clause-count}
+use Rattle.meaning.specs.Means.{named}
+use Rattle.meaning.specs.Answer.{stepFailure, failure, finish, readOn, restsIn}
+use Rattle.verdict.specs.Running.{HeldOf, JudgesRead, FirstFailing, Parented}
+use Rattle.verdict.proofs.Ends.{clause-count, ends-held, marks-held}
 use Rattle.meaning.proofs.Entailed.{Good, good-fresh, good-after, empty-list}
 
 -- Checks 2 to 6, and then those of a step.
@@ -363,12 +365,12 @@ module _ {F : Figures} {part : ℕ → List ℕ} {text rest : List ℕ} {lines :
       let e : rest ≡ [] = no-length rest h in
       (P .onward ∙ rw e, P .whole ∙ rw e)
 
-  pub finished : length rest ≡ 0 → (constant : Bool) (first : ℕ) (v : Verdict) (before ns : List ℕ) →
-      Finishes constant (held .clauses) first (held .inputs) ps qs before v ns → constant ≡ hasConstant (heldTable held) → first ≡ firstEmpty (clauses (P .st)) → before ≡ [] →
-      (v ≡ readOn fresh 1 (readings F text)) × (ns ≡ restsIn (stateOf F text) v)
-  unfolding Finishes
-  finished h constant first v before ns f c e z =
+  pub finished : length rest ≡ 0 → {constant : Bool} {first : ℕ} {v : Verdict} {marks : List Bool} (before : List Bool) → v ≡ endsAs constant (held .clauses) first →
+      marks ≡ marksAs constant (held .clauses) first (held .inputs) ps qs before → constant ≡ hasConstant (heldTable held) →
+      first ≡ firstZero (take (held .clauses) (held .literals)) → named before ≡ [] → (v ≡ readOn fresh 1 (readings F text)) × (named marks ≡ restsIn (stateOf F text) v)
+  finished h before e m c f z =
       let st = P .st in
-      let w = f (F .depth) part held st (P .holds) c refl e refl (P .parented) (given-falls (st .symbols) (st .inputs) (st .steps) (P .good .given)) z in
+      let falls = given-falls (st .symbols) (st .inputs) (st .steps) (P .good .given) in
+      let q = e ∙ ends-held (P .holds) (P .parented) falls held-within c f in
       let (k, g) = reached-end h in
-      (w .0 ∙ sym k, w .1 ∙ rw (g, w .0))
+      (q ∙ sym k, ap named m ∙ marks-held (P .holds) (P .parented) falls held-within c f before z ∙ rw (g, q))

@@ -13,6 +13,7 @@ use lib.ListN.{length, set, take, drop, length-append, length-map, length-drop}
 use lib.Seq.{drop-drop, drop-append-le}
 use Rattle.descent.specs.declared.Parents.{Parents}
 use Rattle.descent.specs.Walk.{parentsBy}
+use Rattle.ends.specs.Ends.{firstZero, endsAs, marksAs}
 use Rattle.reader.specs.declared.states.HeldState as code
 use Rattle.reader.specs.declared.states.Seen.{Seen}
 use Rattle.reader.specs.declared.states.Added.{Added}
@@ -29,9 +30,10 @@ use Rattle.reader.specs.Represents.{Represents, Begins, LineStands, Adds}
 use Rattle.meaning.specs.declared.Verdict.{Verdict}
 use Rattle.meaning.specs.declared.Verdict.the-variants.{Refuted, Open, Refused}
 use Rattle.meaning.specs.Checks.{readings, stateOf}
+use Rattle.meaning.specs.Means.{named}
 use Rattle.meaning.specs.Guarantee.{isAccepted}
 use Rattle.meaning.specs.Answer.{failure, firstEmpty, acceptedAs, finish, readOn, verdict, restsIn, rests, jointly}
-use Rattle.verdict.specs.Running.{Parented, Finishes, leftOf, seamFailure, Answers}
+use Rattle.verdict.specs.Running.{Parented, leftOf, seamFailure, Answers}
 use Rattle.verdict.proofs.Ends.{symbols-within}
 use Rattle.verdict.proofs.Running.{Reached, text-within, reached-first, line-refused, line-within, line-before, clause-room, reached-after, reached-end, finished, no-length}
 use Rattle.meaning.proofs.Jobs.{read-verdict, lines-append, read-joined, state-joined, jointly-alone, jointly-joined, jointly-nothing}
@@ -293,24 +295,24 @@ module _ (F : Figures) (base job : List ℕ) (u : UpToOffice F) (small : tooLarg
         go (no q) (inr (J, l)) = ahead (inr J, J .left ∙ sym (part-job base job at (J .within)))
 
     -- All lines are read.
-    pub came-end : length base + min (length job) (office .bytes + 1) ≤ at → (constant : Bool) (first : ℕ) (v : Verdict) (before ns : List ℕ) →
-        Finishes constant (held .clauses) first (held .inputs) ps qs before v ns → constant ≡ hasConstant (heldTable held) → first ≡ firstEmpty (clauses (P .reached .st)) → before ≡ [] →
-        Answers F base job v ns
-    came-end e constant first v before ns f c d z = go (P .stage)
+    pub came-end : length base + min (length job) (office .bytes + 1) ≤ at → {constant : Bool} {first : ℕ} {v : Verdict} {marks : List Bool} (before : List Bool) →
+        v ≡ endsAs constant (held .clauses) first → marks ≡ marksAs constant (held .clauses) first (held .inputs) ps qs before → constant ≡ hasConstant (heldTable held) →
+        first ≡ firstZero (take (held .clauses) (held .literals)) → named before ≡ [] → Answers F base job v (named marks)
+    came-end e {v = v} {marks = marks} before f m c d z = go (P .stage)
       where
         h : length (partAt base job at) ≡ 0
         h = part-none base job at e (omega (arith, P .fits))
 
-        go : Alone base at (P .text) (P .rest) ⊎ (Joined F base job at (P .text) (P .rest) × (length base < at)) → Answers F base job v ns
+        go : Alone base at (P .text) (P .rest) ⊎ (Joined F base job at (P .text) (P .rest) × (length base < at)) → Answers F base job v (named marks)
         go (inl A) =
             let w : length base ≤ at = base-passed base job at h in
             let e : P .rest ≡ [] = A .left ∙ past base at w in
             let k : at - length base ≡ 0 = omega (arith, A .within) in
             let j : job ≡ [] = no-length job (rw (part-job base job at w, k) at h) in
-            text-answers base small (rw j (jointly-nothing F base)) (rw (A .is) at (finished (P .reached) (ap length e) constant first v before ns f c d z))
+            text-answers base small (rw j (jointly-nothing F base)) (rw (A .is) at (finished (P .reached) (ap length e) before f m c d z))
         go (inr (J, l)) =
             let e : P .rest ≡ partAt base job at = J .left ∙ sym (part-job base job at (J .within)) in
-            text-answers (base ++ job) (J .small) (jointly-joined F base job (J .accepted)) (rw (J .is) at (finished (P .reached) (ap length e ∙ h) constant first v before ns f c d z))
+            text-answers (base ++ job) (J .small) (jointly-joined F base job (J .accepted)) (rw (J .is) at (finished (P .reached) (ap length e ∙ h) before f m c d z))
 
   -- A line as it was read, once its number is known.
   module _ {at lines : ℕ} {held : code.HeldState} {ps qs : List ℕ} (P : Ahead F base job at lines held ps qs) (some : 0 < length (partAt base job at)) {n : ℕ}

@@ -1,9 +1,9 @@
 -- What the functions below `check` promise: what the state that the code holds (code.HeldState) tells of each state of the definitions that
 -- it represents. Nothing here has to be believed: `check` promises the verdict of the definitions.
 use Prim.Native.Nat.{ℕ, _-_, _<_}
-use mathlib.Core.Bool.{Bool, cond}
+use mathlib.Core.Bool.{cond}
 use lib.Dec.{eqb}
-use mathlib.Core.List.{List, []}
+use mathlib.Core.List.{List}
 use mathlib.Core.Path.{_≡_}
 use lib.ListN.{length, getD}
 use Rattle.reader.specs.declared.states.HeldState as code
@@ -11,7 +11,6 @@ use Rattle.reader.specs.declared.states.Seen.{Seen}
 use Rattle.logic.specs.declared.Judged.{Judged}
 use Rattle.logic.specs.Syntax.{Step, by}
 use Rattle.logic.specs.Judge.{judge}
-use Rattle.logic.specs.Reach.{ParentsFall}
 use Rattle.descent.specs.Walk.{parentsOf, HeldFrom}
 use Rattle.lines.specs.declared.forms.LineAt.{LineAt}
 use Rattle.lines.specs.LineAt.{lineOf}
@@ -20,12 +19,11 @@ use Rattle.text.specs.Form.{form}
 use Rattle.text.specs.Read.{readLine}
 use Rattle.reader.specs.State.{State, clauses, hasConstant}
 use Rattle.reader.specs.Represents.{Represents}
-use Rattle.reader.specs.ReadLine.{heldTable}
 use Rattle.reader.specs.Failure.{readFailure}
 use Rattle.meaning.specs.declared.Verdict.{Verdict}
 use Rattle.verdict.specs.declared.HeldClause.{HeldClause}
 use Rattle.meaning.specs.Checks.{tooLarge}
-use Rattle.meaning.specs.Answer.{failure, firstEmpty, finish, restsIn, verdict, rests, jointly}
+use Rattle.meaning.specs.Answer.{failure, verdict, rests, jointly}
 
 -- What is held of clause n, if there is one.
 unfoldable pub HeldOf : code.HeldState → ℕ → HeldClause → Type 0
@@ -47,22 +45,10 @@ FirstFailing depth part own a b line seen r =
     HeldOf held (seen .line .b) b → seen .failure ≡ readFailure st (readLine depth line) →
     seen .line ≡ lineOf (st .symbols) line (readLine depth line) → r ≡ failure st (readLine depth line)
 
--- Of the clauses, and of the end of the text, by what is held.
-unfoldable pub FindsEmpty : List ℕ → ℕ → ℕ → Type 0
-FindsEmpty literals count n =
-    (depth : ℕ) (part : ℕ → List ℕ) (held : code.HeldState) (st : State) → Represents depth part held st → literals ≡ held .literals →
-    count ≡ held .clauses → n ≡ firstEmpty (clauses st)
-
 -- The parents that each step uses are held by its number.
 pub record Parented (st : State) (ps qs : List ℕ) : Type 0 where
   pub first : HeldFrom (λ s. parentsOf s .a) (length (st .inputs)) ps (st .steps)
   pub second : HeldFrom (λ s. parentsOf s .b) (length (st .inputs)) qs (st .steps)
-
-unfoldable pub Finishes : Bool → ℕ → ℕ → ℕ → List ℕ → List ℕ → List ℕ → Verdict → List ℕ → Type 0
-Finishes constant count first inputs ps qs before v ns =
-    (depth : ℕ) (part : ℕ → List ℕ) (held : code.HeldState) (st : State) → Represents depth part held st →
-    constant ≡ hasConstant (heldTable held) → count ≡ held .clauses → first ≡ firstEmpty (clauses st) → inputs ≡ held .inputs →
-    Parented st ps qs → ParentsFall (length (st .inputs)) (st .steps) → before ≡ [] → (v ≡ finish st) × (ns ≡ restsIn st (finish st))
 
 -- What the figures leave after so many bytes and lines.
 unfoldable pub leftOf : Figures → ℕ → ℕ → Figures

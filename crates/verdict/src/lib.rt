@@ -2,6 +2,8 @@
 // counted.
 
 use descent::used_parents;
+use ends::finish;
+use ends::first_empty;
 use lines::forms::LineAt;
 use lines::forms::STEP;
 use lines::forms::form_number;
@@ -27,7 +29,7 @@ ghost use Prim.Native.Nat.{_+_, _≤_, min};
 ghost use mathlib.Core.Path.{_≡_};
 ghost use mathlib.Core.Bool.{false};
 ghost use mathlib.Core.List.{[]};
-ghost use lib.ListN.{length, take};
+ghost use lib.ListN.{take};
 ghost use Rattle.logic.specs.StepChecks.{judgedNumber};
 ghost use Rattle.text.specs.Figures.{office, UpToOffice};
 ghost use Rattle.text.specs.Size.{partAt};
@@ -36,7 +38,7 @@ ghost use Rattle.meaning.specs.Means.{Means, named};
 ghost use Rattle.meaning.specs.Answer.{verdict, rests, jointly};
 ghost use Rattle.meaning.specs.Guarantee.{Guarantee};
 ghost use Rattle.meaning.specs.Job.{JobMeans, JobGuarantee};
-ghost use Rattle.verdict.specs.Running.{JudgesRead, FirstFailing, FindsEmpty, Finishes, seamFailure, Answers};
+ghost use Rattle.verdict.specs.Running.{JudgesRead, FirstFailing, seamFailure, Answers};
 
 // What the reading holds of a clause: its place, its number of literals and its width.
 struct HeldClause {
@@ -119,48 +121,6 @@ fn failing<'a>(
         return 0;
     }
     number(judged(depth, base, job, own, a, b, line, l))
-}
-
-// The number of the first empty clause, or of all clauses where none is empty.
-fn first_empty(literals: &[u8], clauses: usize) -> usize
-    requires { ⌜ clauses ≤ length (now literals) ⌝ }
-    ensures { λ r. ⌜ FindsEmpty (now (literals .entry)) clauses r ⌝ }
-{
-    let mut n = 0;
-    while n < clauses {
-        if literals[n] == 0 {
-            return n;
-        }
-        n += 1;
-    }
-    n
-}
-
-// All lines have passed: whether there is a constant, the number of clauses and of the first empty one, and the number of in lines. Of each
-// step the parents that it uses are held in a and b. The inputs on which a refutation rests are marked in rests, where nothing is marked
-// before.
-fn finish(
-    constant: bool,
-    count: usize,
-    first: usize,
-    inputs: usize,
-    a: &[u16; LINES],
-    b: &[u16; LINES],
-    rests: &mut [bool; LINES],
-) -> Verdict
-    requires { ⌜ count ≤ office .lines ⌝ }
-    ensures { λ r.
-        ⌜ Finishes constant count first inputs (now (a .entry)) (now (b .entry)) (named (now (rests .entry))) r
-        (named (now (rests .exit))) ⌝ }
-{
-    if !constant {
-        return Verdict::Refused { number: 4, line: 0 };
-    }
-    if first >= count {
-        return Verdict::Open { count };
-    }
-    *rests = descent::rests(a, b, inputs, first);
-    Verdict::Refuted { count, first }
 }
 
 // How far two texts reach: one byte further than a text may, where they are longer.

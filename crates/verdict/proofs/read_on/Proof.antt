@@ -7,10 +7,9 @@ use mathlib.Core.Path.{_≡_, refl, sym, ap, _∙_}
 use denote.Ref.{now}
 use lib.ListN.{length, length-set, length-replicate}
 use Rattle.text.specs.Figures.{office}
-use Rattle.text.specs.Size.{firstLine, partAt}
+use Rattle.text.specs.Size.{firstLine}
 use native.Mathlib.Omega.{arith}
 use Rattle.reader.specs.ReadLine.{heldTable}
-use Rattle.verdict.specs.Running.{FindsEmpty}
 use Rattle.verdict.proofs.Running.{text-within, line-number, line-added, line-parented, slot-below, held-of, held-within}
 use Rattle.verdict.proofs.TwoTexts.{Came, Ahead, LineRead, part-some, came-first, came-ahead, came-end, came-as, lines-within, seam-refused, line-answer, line-stands, line-after, room-here, symbol-came, clause-came, symbol-room}
 use Rattle.verdict.proofs.read_on.Statement.{statement}
@@ -194,23 +193,14 @@ loop-again c =
     )
 
 -- All lines are read.
-first-empty-requires : tie.Need-first-empty-requires Inv-loop μ-loop
-first-empty-requires c κs = let P = c .before .before .before .before .before .before .before .before .loop .inv .2 .reached in omega (arith, held-within P, P .holds .literals-room)
-
-finish-requires : tie.Need-finish-requires Inv-loop μ-loop
-finish-requires c κs = held-within (c .before .before .before .before .before .before .before .before .before .before .before .before .loop .inv .2 .reached)
-
 returns-3 : tie.Need-returns-3 Inv-loop μ-loop
-unfolding FindsEmpty heldTable
+unfolding heldTable
 returns-3 c =
     let f = c .before .before .before .before in
     let e = f .before .before .before .before .before .before .before .before in
     let l = e .before in
-    let a = l .before .before .before .before .before .args in
     let p = l .before .before .before .before .before .pre in
-    let P = l .loop .inv .2 in
-    let first = f .first-empty .ensures (a .figures .depth) (partAt (now (a .base)) (now (a .job))) (l .loop .state) (P .reached .st) (P .reached .holds) refl refl in
-    came-end _ _ _ (p .1) (p .0) P (omega (arith, l .before .before .reach .ensures, e .loop-test .left)) _ _ _ _ _ (c .finish .ensures) (f .before .before .before .before .constant-held .ensures .0) first (p .2)
+    came-end _ _ _ (p .1) (p .0) (l .loop .inv .2) (omega (arith, l .before .before .reach .ensures, e .loop-test .left)) _ (c .finish .ensures .0) (c .finish .ensures .1) (f .before .before .before .before .constant-held .ensures .0) (f .first-empty .ensures .0) (p .2)
 
 pub read-on-spec : {M : Type 1} → statement M
 read-on-spec =
@@ -219,4 +209,4 @@ read-on-spec =
     mul-held element-copy-out-held element-copy-out-held-2 element-copy-out-held-3 (λ c κs. tt) (λ c κs. tt)
     mul-held-2 element-copy-out-held-4 element-copy-out-held-5 element-copy-out-held-6 (λ c κs. tt) (λ c κs. tt) add-line returns-2 (λ c κs. tt)
     (λ c. omega (arith, clause-fits (c .before .before))) (λ c. omega (arith, clause-fits (c .before .before))) (λ c. omega (arith, clause-fits (c .before .before))) (λ c. omega (arith, clause-fits (c .before .before)))
-    (λ c κs. tt) element-write-state add-state mul-state element-write-state-2 element-write-state-3 element-write-state-4 add-state-2 add-at add-at-2 loop-less loop-again (λ c κs. tt) first-empty-requires finish-requires returns-3)
+    (λ c κs. tt) element-write-state add-state mul-state element-write-state-2 element-write-state-3 element-write-state-4 add-state-2 add-at add-at-2 loop-less loop-again (λ c κs. tt) (λ c κs. tt) (λ c κs. tt) returns-3)
