@@ -12,7 +12,8 @@ pub mod Lines
 pub mod Examples
 pub mod Deep
 pub mod Table
-pub mod KindTable
+pub mod FormerKinds
+pub mod KindBytes
 pub mod Places
 pub mod Positions
 pub mod Trees

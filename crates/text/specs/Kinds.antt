@@ -1,5 +1,5 @@
--- The kinds of the 256 byte values (T5), by their meaning. No verdict rests on them: the reader asks only for digits (`is-digit`,
--- `no-digit`: proofs/KindTable).
+-- Nothing in this file has to be believed: the kinds of the 256 byte values. The reader asks only for digits, and `kind-digit`
+-- (proofs/KindBytes) says that these are the digits of a number. `kinds-kept` (proofs/FormerKinds) holds them to the table that there was.
 use Prim.Native.Nat.{ℕ}
 use mathlib.Core.Bool.{Bool, _&&_, _||_, cond}
 use lib.Dec.{leb, eqb}
@@ -8,7 +8,8 @@ use lib.Dec.{leb, eqb}
 abbrev pub between : ℕ → ℕ → ℕ → Bool
 between a b x = leb a x && leb x b
 
--- T5: "Each of the 256 byte values has a kind: digit, small letter, bracket, sign, space, line end or other.": 0 to 6 in this order.
+-- T5: "Each of the 256 byte values has a kind: digit (48 to 57), small letter (97 to 122), bracket (40 and 41), sign (43 and 45), space
+-- (32), line end (10) or other (all the rest).": 0 to 6 in this order.
 unfoldable pub kindOf : ℕ → ℕ
 kindOf b =
     cond (between 48 57 b) 0
