@@ -1,4 +1,6 @@
-// The kinds of the byte values, by the ranges that they are.
+// The kinds of the byte values, by the ranges that they are. The reader asks for the kind where any byte of it will do, which is at digits.
+// Elsewhere the form wants one byte, and the reader asks for that byte: one bracket of the two, one sign, the next letter of a word. A
+// space and a line end are each the one byte of its kind.
 ghost use mathlib.Core.Path.{_≡_};
 ghost use Rattle.text.specs.Kinds.{kindOf, between as isBetween};
 

@@ -1,4 +1,6 @@
 // Numbers N.
+use crate::kinds::DIGIT;
+use crate::kinds::kind;
 ghost use mathlib.Core.Path.{_≡_};
 ghost use Prim.Native.Nat.{_≤_};
 ghost use lib.ListN.{length, drop};
@@ -17,7 +19,7 @@ pub struct NumberAt {
 fn digit(b: u8) -> bool
     ensures { λ r. ⌜ r ≡ isDigit b ⌝ }
 {
-    if b < b'0' { false } else { b <= b'9' }
+    kind(b) == DIGIT
 }
 
 // Whether a digit may follow n and make it `further`.
