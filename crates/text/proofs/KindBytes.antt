@@ -1,4 +1,4 @@
--- Which bytes have each kind, and where the test of a byte is the test of its kind.
+-- The bytes of a kind, and where the test of a byte is the test of its kind. Where a byte is known, `kindOf` computes.
 use Prim.Native.Nat.{ℕ, _≤_}
 use mathlib.Core.Path.{_≡_, refl, sym, _∙_, subst}
 use mathlib.Core.Bool.{Bool, true, false, true≢false, _||_}
