@@ -1,11 +1,11 @@
 -- The bytes of a kind, and where the test of a byte is the test of its kind. Where a byte is known, `kindOf` computes.
-use Prim.Native.Nat.{ℕ, _≤_}
+use Prim.Native.Nat.{ℕ, _<_, _≤_}
 use mathlib.Core.Path.{_≡_, refl, sym, _∙_, subst}
-use mathlib.Core.Bool.{Bool, true, false, true≢false, _||_}
+use mathlib.Core.Bool.{Bool, true, false, true≢false, _||_, and-false}
 use mathlib.Core.Logic.{_↔_}
 use native.Mathlib.Omega.{arith}
-use lib.Dec.{T, eqb, eqb→eq, leb→le}
-use borrow.Author.Tests.{le-leb, eq-eqb, ne-eqb, eqb-false}
+use lib.Dec.{T, eqb, eqb→eq, leb, leb→le}
+use borrow.Author.Tests.{le-leb, lt-leb, eq-eqb, ne-eqb, eqb-false}
 use Rattle.text.specs.Words.{lineEnd}
 use Rattle.text.specs.Kinds.{between, kindOf}
 use Rattle.text.specs.Read.{digit}
@@ -14,12 +14,11 @@ use Rattle.text.proofs.Tests.{T-and, onTest}
 within : (a z b : ℕ) → a ≤ b → b ≤ z → between a z b ≡ true
 within a z b l h = rw (le-leb a b l, le-leb b z h)
 
-outside : (a z b : ℕ) → (a ≤ b → b ≤ z → ⊥) → between a z b ≡ false
-outside a z b n = fails (between a z b) λ t. let (l, h) = simp T-and at t in n (leb→le a b l) (leb→le b z h)
-  where
-    fails : (t : Bool) → (T t → ⊥) → t ≡ false
-    fails true n = absurd (n tt)
-    fails false n = refl
+below : (a z b : ℕ) → b < a → between a z b ≡ false
+below a z b h = rw (lt-leb a b h)
+
+above : (a z b : ℕ) → z < b → between a z b ≡ false
+above a z b h = rw (lt-leb b z h) (and-false (leb a b))
 
 pub digit-kind : {b : ℕ} → 48 ≤ b → b ≤ 57 → kindOf b ≡ 0
 unfolding kindOf
@@ -27,11 +26,11 @@ digit-kind {b = b} l h = rw (within 48 57 b l h)
 
 pub letter-kind : {b : ℕ} → 97 ≤ b → b ≤ 122 → kindOf b ≡ 1
 unfolding kindOf
-letter-kind {b = b} l h = rw (outside 48 57 b (omega arith), within 97 122 b l h)
+letter-kind {b = b} l h = rw (above 48 57 b (omega arith), within 97 122 b l h)
 
 pub bracket-kind : {b : ℕ} → 40 ≤ b → b ≤ 41 → kindOf b ≡ 2
 unfolding kindOf
-bracket-kind {b = b} l h = rw (outside 48 57 b (omega arith), outside 97 122 b (omega arith), either (eqb b 40) refl)
+bracket-kind {b = b} l h = rw (below 48 57 b (omega arith), below 97 122 b (omega arith), either (eqb b 40) refl)
   where
     either : (t : Bool) → eqb b 40 ≡ t → (t || eqb b 41) ≡ true
     either true e = refl
