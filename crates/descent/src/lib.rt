@@ -1,7 +1,7 @@
 // From which inputs a clause descends: one walk back over the clauses, by the parents that each step uses.
 use logic::Rule;
+use rule_numbers::used;
 use text::LINES;
-use uses::used;
 ghost use Prim.Native.Nat.{_<_};
 ghost use mathlib.Core.Path.{_≡_};
 ghost use Rattle.text.specs.Figures.{office};

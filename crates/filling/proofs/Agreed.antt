@@ -24,8 +24,8 @@ use Rattle.filling.proofs.Alike.{Fills, term-fills, same-tree, same-onl
 use Rattle.filling.proofs.Filling.{fillTree, trees, tree-term, tree-arguments, tree-atom}
 use Rattle.filling.proofs.Grounds.{Entries, no-width, ground-tree, stands-there, stands-only}
 use Rattle.filling.proofs.NumberedFill.{atom-bytes}
-use Rattle.parts.specs.Shapes.{within}
-use Rattle.parts.proofs.Placing.{Stands}
+use Rattle.clauses.specs.Shapes.{within}
+use Rattle.clauses.proofs.Placing.{Stands}
 
 -- The place past what agrees is a place exactly where something was read.
 found-within : (p q : List ℕ) (w : Parsed (List ℕ)) → T (within p (endsOf p q w .at)) → (other : List ℕ) × (rest : List ℕ) × (w ≡ got other rest)

@@ -23,12 +23,12 @@ use Rattle.text.proofs.Nesting.{skip-literal}
 use Rattle.text.proofs.Heads.{strip-same}
 use Rattle.filling.specs.declared.compare.Ends.{Ends}
 use Rattle.filling.specs.Filled.{filledBy, matches, endsOf, itemDepth}
-use Rattle.parts.specs.Shapes.{stripAt, skipAt}
+use Rattle.clauses.specs.Shapes.{stripAt, skipAt}
 use Rattle.filling.specs.Claims.{keptAt, onceAt, othersFrom}
 use Rattle.filling.proofs.Filling.{tree-literal}
 use Rattle.filling.proofs.Grounds.{Entries, filled-by, empty-by}
 use Rattle.text.proofs.Trees.{treeLiteral, put-literal, clean-literal, within-literal}
-use Rattle.parts.proofs.Placing.{Stands, strip-stands, skip-stands, past-strip, none-past}
+use Rattle.clauses.proofs.Placing.{Stands, strip-stands, skip-stands, past-strip, none-past}
 
 -- One word after another.
 strip-append : (v w bs : List ℕ) → strip (v ++ w) bs ≡ andThen (strip v bs) (λ _. strip w)

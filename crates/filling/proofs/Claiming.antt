@@ -7,7 +7,7 @@ use native.Mathlib.Omega.{arith}
 use lib.Dec.{eqb}
 use Rattle.text.specs.Words.{bytes}
 use Rattle.filling.specs.declared.compare.Ends.{Ends}
-use Rattle.parts.specs.Shapes.{stripAt, skipAt}
+use Rattle.clauses.specs.Shapes.{stripAt, skipAt}
 use Rattle.filling.specs.Claims.{keptAt, onceAt, othersFrom}
 
 module _ (depth : ℕ) (p : List ℕ) (dropped : ℕ) (line starts rest : List ℕ) where

@@ -20,8 +20,8 @@ use Rattle.filling.specs.Filled.{fillItem, plain, ground, itself, filled
 use Rattle.filling.specs.Agree.{standsAt}
 use Rattle.filling.proofs.Filling.{fillTree, fillTrees, tree-front, tree-longer, after-it, fill-tree, trees}
 use Rattle.filling.proofs.Walk.{fill-empty}
-use Rattle.parts.specs.Shapes.{within}
-use Rattle.parts.proofs.Placing.{Stands}
+use Rattle.clauses.specs.Shapes.{within}
+use Rattle.clauses.proofs.Placing.{Stands}
 
 -- A list whose entries are the written images of the variables below w.
 abbrev pub Entries : List ℕ → List ℕ → Substitution → ℕ → Type 0

@@ -5,7 +5,7 @@ use mathlib.Core.Bool.{Bool, cond, _&&_}
 use mathlib.Core.List.{List}
 use lib.ListN.{length, drop}
 use Rattle.filling.specs.Filled.{plain, ground, filledBy, matches, sameItem, endsOf, itemDepth}
-use Rattle.parts.specs.Shapes.{nextAt, within}
+use Rattle.clauses.specs.Shapes.{nextAt, within}
 
 -- The item at x of p, filled by a list of the line, stands at y of q.
 unfoldable pub standsAt : ℕ → List ℕ → ℕ → List ℕ → List ℕ → List ℕ → ℕ → Bool

@@ -9,7 +9,7 @@ use lib.ListN.{length, drop}
 use Rattle.text.specs.Words.{bytes}
 use Rattle.filling.specs.declared.compare.Ends.{Ends}
 use Rattle.filling.specs.Filled.{fillItem, replacing, filledBy, matches, endsOf, itemDepth, holeDepth}
-use Rattle.parts.specs.Shapes.{stripAt, skipAt}
+use Rattle.clauses.specs.Shapes.{stripAt, skipAt}
 
 -- The item at `at` of p, filled by a list of the line, stands in the bytes `rest`: the place past it.
 unfoldable pub filledAt : ℕ → List ℕ → ℕ → List ℕ → List ℕ → List ℕ → ℕ → ℕ

@@ -5,9 +5,9 @@ use mathlib.Core.Bool.{Bool, cond, not, _&&_, _||_}
 use mathlib.Core.List.{List}
 use lib.ListN.{take, drop}
 use Rattle.text.specs.Words.{bytes}
-use Rattle.parts.specs.Shapes.{stripAt, positiveAt, negativeAt, resultAt, orPlace, firstAt}
+use Rattle.clauses.specs.Shapes.{stripAt, positiveAt, negativeAt, resultAt, orPlace, firstAt}
 use Rattle.filling.specs.Agree.{agreeAt, callsAt}
-use Rattle.parts.specs.Shapes.{within}
+use Rattle.clauses.specs.Shapes.{within}
 
 -- The head of an arrow atom: a bracket, two letters and a space.
 unfoldable pub headAt : List ℕ → ℕ → List ℕ

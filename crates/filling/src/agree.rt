@@ -4,11 +4,11 @@
 use crate::compare::item_depth;
 use crate::compare::same;
 use crate::compare::stands;
-use parts::shapes::next;
-use parts::shapes::result;
-use parts::shapes::within;
+use clauses::shapes::next;
+use clauses::shapes::result;
+use clauses::shapes::within;
 use scan::words::word;
-use texts::clause_part;
+use source::clause_part;
 ghost use mathlib.Core.Path.{_≡_};
 ghost use Rattle.filling.specs.Agree.{agreeAt, callsAt};
 ghost use Rattle.filling.specs.Covers.{headAt, bareAt, coversAt};

@@ -7,13 +7,13 @@ use crate::compare::expect;
 use crate::compare::hole_depth;
 use crate::compare::item_depth;
 use crate::compare::stands;
-use parts::access::skip;
+use clauses::access::skip;
 use scan::words::word;
 ghost use mathlib.Core.Path.{_≡_};
 ghost use lib.Dec.{eqb};
 ghost use lib.ListN.{length};
 ghost use Rattle.text.specs.Words.{bytes};
-ghost use Rattle.parts.specs.Shapes.{stripAt};
+ghost use Rattle.clauses.specs.Shapes.{stripAt};
 ghost use Rattle.filling.specs.Claims.{filledAt, rewrittenAt, keptAt, othersAt, reflexiveAt, equatedAt};
 
 // The term at `term` of the literal at `literal` of one clause is replaced by the one at `from` of another.

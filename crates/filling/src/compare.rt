@@ -1,6 +1,6 @@
 // Comparing filled items.
-use parts::access::entry;
-use parts::access::skip;
+use clauses::access::entry;
+use clauses::access::skip;
 use scan::numbers::number;
 use scan::words::prefix;
 use scan::words::word;

@@ -18,7 +18,7 @@ use Rattle.text.specs.Form.{Reading, form, noForm, formedNumber, formedClause, 
 use Rattle.text.specs.Read.{readRaw}
 use Rattle.text.specs.Split.{split}
 use Rattle.text.specs.declared.Figures.{Figures}
-use Rattle.reader.specs.State.{State, fresh, clauses, claimOf, advance, isEmpty, ordered, hasConstant, constantReady, symbolsDeclared, lineChecks, after, stateAfter}
+use Rattle.state.specs.State.{State, fresh, clauses, claimOf, advance, isEmpty, ordered, hasConstant, constantReady, symbolsDeclared, lineChecks, after, stateAfter}
 use Rattle.text.proofs.Deep.{formedSymbol, formed-over}
 use Rattle.text.proofs.Lines.{lines-complete, lines-sound}
 use Rattle.meaning.specs.Checks.{readings, tooLarge, stepPart, checksOf, checksAt, stateOf, tableOf, Accepted}

@@ -21,8 +21,8 @@ use Rattle.logic.specs.Terms.{join, count, entryOr, resultTerms, termsOf, front
 use Rattle.text.specs.Figures.{office}
 use Rattle.text.specs.Read.{strip, oneOf, digit, goesOn, readDigits, readNumber, readNext, readItems, readMany, readVariable, readApplied, readTerm, readArguments, readResult, readLink, readObject, readMethod, readKind, readAtom, readSign, readLiteral, readClause, readLet, readRule, readSym, readInput, readStep, readForm, whole, readLine, readRaw}
 use Rattle.text.specs.Split.{push, split}
-use Rattle.reader.specs.State.{fresh, clauses, advance, isEmpty, ordered, hasConstant, constantReady, argumentsFit, argumentsFitAll, clauseFits, listFits, withinLimits, symbolsDeclared, after, stateAfter}
-use Rattle.reader.specs.Failure.{lineFailure}
+use Rattle.state.specs.State.{fresh, clauses, advance, isEmpty, ordered, hasConstant, constantReady, argumentsFit, argumentsFitAll, clauseFits, listFits, withinLimits, symbolsDeclared, after, stateAfter}
+use Rattle.state.specs.Failure.{lineFailure}
 use Rattle.meaning.specs.Answer.{stepFailure, failure, isNil, firstEmpty, acceptedAs, finish, readOn, verdict, restsIn, rests}
 use Rattle.meaning.specs.Checks.{readings, tooLarge, stateOf, tableOf, inputsOf}
 use Rattle.meaning.specs.Guarantee.{isAccepted}

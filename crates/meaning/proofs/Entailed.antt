@@ -20,7 +20,7 @@ use Rattle.logic.proofs.Entailment.{ListsOver, ClauseOver, AllGiven, ClosedUnde
 use Rattle.logic.proofs.Descending.{descends-closed}
 use Rattle.text.specs.Form.{Reading, form, noForm}
 use Rattle.text.specs.declared.Figures.{Figures}
-use Rattle.reader.specs.State.{State, fresh, clauses, claimOf, advance, isEmpty, ordered, hasConstant, symbolsDeclared, lineChecks, after, stateAfter}
+use Rattle.state.specs.State.{State, fresh, clauses, claimOf, advance, isEmpty, ordered, hasConstant, symbolsDeclared, lineChecks, after, stateAfter}
 use Rattle.meaning.specs.Checks.{readings, stepPart, checksOf, checksAt, stateOf, tableOf, inputsOf, stepsOf, clausesOf, Accepted}
 use Rattle.meaning.specs.Means.{FirstEmpty}
 use Rattle.meaning.specs.Answer.{failure}

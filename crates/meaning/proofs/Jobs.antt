@@ -17,7 +17,7 @@ use Rattle.text.specs.Split.{Raw, ended, unended, split}
 use Rattle.text.specs.declared.Figures.{Figures}
 use Rattle.text.proofs.Lines.{AllEnded, split-append}
 use Rattle.text.proofs.Tests.{holds}
-use Rattle.reader.specs.State.{State, fresh, after, stateAfter}
+use Rattle.state.specs.State.{State, fresh, after, stateAfter}
 use Rattle.meaning.specs.declared.Verdict.{Verdict}
 use Rattle.meaning.specs.declared.Verdict.the-variants.{Refused}
 use Rattle.meaning.specs.Checks.{readings, tooLarge, stateOf, Accepted}

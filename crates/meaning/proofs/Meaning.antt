@@ -17,8 +17,8 @@ use Rattle.logic.specs.Judge.{judge}
 use Rattle.logic.proofs.Steps.{first-unique, pass-or-fail, JudgeMeans, judge-means}
 use Rattle.text.specs.Form.{Reading, form, noForm}
 use Rattle.text.specs.declared.Figures.{Figures}
-use Rattle.reader.specs.State.{State, fresh, clauses, ordered, constantReady, withinLimits, symbolsDeclared, lineChecks, hasConstant, after, stateAfter}
-use Rattle.reader.specs.Failure.{lineFailure}
+use Rattle.state.specs.State.{State, fresh, clauses, ordered, constantReady, withinLimits, symbolsDeclared, lineChecks, hasConstant, after, stateAfter}
+use Rattle.state.specs.Failure.{lineFailure}
 use Rattle.meaning.specs.declared.Verdict.{Verdict}
 use Rattle.meaning.specs.declared.Verdict.the-variants.{Refuted, Open, Refused}
 use Rattle.meaning.specs.Checks.{readings, tooLarge, stepPart, checksOf, checksAt, stateOf, tableOf, clausesOf, Accepted}

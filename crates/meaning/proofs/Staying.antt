@@ -13,7 +13,7 @@ use Rattle.logic.specs.StepChecks.{AllPass, FailsFirst, stepChecks}
 use Rattle.logic.proofs.Staying.{formerChecks, former-passes, former-fails}
 use Rattle.text.specs.Form.{Reading, form, noForm}
 use Rattle.text.specs.declared.Figures.{Figures}
-use Rattle.reader.specs.State.{State, fresh, clauses, hasConstant, lineChecks, after}
+use Rattle.state.specs.State.{State, fresh, clauses, hasConstant, lineChecks, after}
 use Rattle.meaning.specs.declared.Verdict.{Verdict}
 use Rattle.meaning.specs.declared.Verdict.the-variants.{Refuted, Open, Refused}
 use Rattle.meaning.specs.Checks.{readings, tooLarge, stepPart, checksOf, checksAt, tableOf, clausesOf, Accepted}

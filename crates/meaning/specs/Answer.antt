@@ -11,8 +11,8 @@ use Rattle.logic.specs.Judge.{judge}
 use Rattle.logic.specs.Reach.{restsOn}
 use Rattle.text.specs.Form.{Reading, form, noForm}
 use Rattle.text.specs.declared.Figures.{Figures}
-use Rattle.reader.specs.State.{State, fresh, clauses, hasConstant, after}
-use Rattle.reader.specs.Failure.{lineFailure}
+use Rattle.state.specs.State.{State, fresh, clauses, hasConstant, after}
+use Rattle.state.specs.Failure.{lineFailure}
 use Rattle.meaning.specs.declared.Verdict.{Verdict}
 use Rattle.meaning.specs.declared.Verdict.the-variants.{Refuted, Open, Refused}
 use Rattle.meaning.specs.Checks.{readings, tooLarge, stateOf}

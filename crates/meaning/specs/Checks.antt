@@ -10,7 +10,7 @@ use Rattle.text.specs.Read.{readRaw}
 use Rattle.text.specs.Split.{split}
 unfoldable pub use Rattle.text.specs.Split.{tooLarge}
 use Rattle.text.specs.declared.Figures.{Figures}
-use Rattle.reader.specs.State.{State, fresh, clauses, hasConstant, lineChecks, after, stateAfter}
+use Rattle.state.specs.State.{State, fresh, clauses, hasConstant, lineChecks, after, stateAfter}
 
 -- T1, T2, V12: the lines of a text, each read as a form or not.
 unfoldable pub readings : Figures → List ℕ → List Reading

@@ -12,7 +12,7 @@ use Rattle.logic.specs.Derivation.{Derivation, WrittenForm}
 use Rattle.text.specs.Write.{writeLines}
 use Rattle.text.specs.Form.{formedLines}
 use Rattle.text.specs.declared.Figures.{Figures}
-use Rattle.reader.specs.State.{State, fresh, advance, hasConstant, withinLimits}
+use Rattle.state.specs.State.{State, fresh, advance, hasConstant, withinLimits}
 use Rattle.meaning.specs.declared.Verdict.{Verdict}
 use Rattle.meaning.specs.declared.Verdict.the-variants.{Refuted, Open, Refused}
 use Rattle.meaning.specs.Checks.{tooLarge, tableOf, inputsOf, clausesOf}

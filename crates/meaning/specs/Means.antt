@@ -11,7 +11,7 @@ use Rattle.logic.specs.StepChecks.{AllPass, FailsFirst}
 use Rattle.logic.specs.Descent.{RestsOn, numbersBelow}
 use Rattle.text.specs.declared.Figures.{Figures}
 use Rattle.text.specs.Figures.{office}
-use Rattle.reader.specs.State.{fresh, hasConstant}
+use Rattle.state.specs.State.{fresh, hasConstant}
 use Rattle.meaning.specs.declared.Verdict.{Verdict}
 use Rattle.meaning.specs.declared.Verdict.the-variants.{Refuted, Open, Refused}
 use Rattle.meaning.specs.Checks.{readings, tooLarge, checksAt, tableOf, inputsOf, stepsOf, clausesOf, Accepted}

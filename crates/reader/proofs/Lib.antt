@@ -1,3 +1,6 @@
-pub mod StateCode
-pub mod Limits
-pub mod Held
+pub mod Measuring
+pub mod Loop
+pub mod Parts
+pub mod AtomParts
+pub mod ClauseParts
+pub mod LineParts

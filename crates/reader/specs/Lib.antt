@@ -1,4 +1,2 @@
-pub mod State
-pub mod Failure
-pub mod ReadLine
-pub mod Represents
+pub mod Summary
+pub mod LineAt

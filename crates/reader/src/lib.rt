@@ -1,2 +1,7 @@
-// The reading state and checks 2 to 6 of a line. The definitions are in specs/, their laws in proofs/.
-pub mod states;
+// Reading a line: what form it is, where its parts stand, and a measure of them.
+mod atoms;
+mod clauses;
+pub mod forms;
+pub mod measures;
+mod summaries;
+mod terms;

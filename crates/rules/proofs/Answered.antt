@@ -13,8 +13,8 @@ use Rattle.logic.specs.declared.Judged.the-variants.{Passed, Misshapen, Disagre
 use Rattle.logic.specs.Syntax.{Clause}
 use Rattle.logic.specs.Rules.{Agreement, Holds}
 use Rattle.logic.specs.Judge.{Conclusion, misshapen, concludes, holds?}
-use Rattle.parts.specs.Shapes.{within}
-use Rattle.table.specs.Rows.{answer}
+use Rattle.clauses.specs.Shapes.{within}
+use Rattle.rule_table.specs.Rows.{answer}
 
 -- What checks 9 and 10 say of what the table concludes.
 unfoldable pub judgedOf : Conclusion → Judged

@@ -21,17 +21,17 @@ use Rattle.text.specs.Write.{word, putLiteral, putLiterals, putClause}
 use Rattle.text.specs.Form.{formedNumber}
 use Rattle.text.specs.Read.{Parsed, bad, got, strip}
 use Rattle.text.specs.Places.{endOf}
-use Rattle.lines.specs.LineAt.{fromClause}
+use Rattle.reader.specs.LineAt.{fromClause}
 use Rattle.text.proofs.Deep.{formedSymbol, clause-bytes}
 use Rattle.text.proofs.Gives.{Gives, nothing, gives, given, strip-gives}
 use Rattle.text.proofs.Heads.{strip-same}
-use Rattle.parts.specs.Shapes.{stripAt}
+use Rattle.clauses.specs.Shapes.{stripAt}
 use Rattle.filling.specs.Claims.{othersAt}
 use Rattle.rules.specs.Judging.{thenClaim}
-use Rattle.parts.proofs.Placing.{Stands}
+use Rattle.clauses.proofs.Placing.{Stands}
 use Rattle.filling.proofs.Claimed.{strip-chain, literals-open}
 use Rattle.rules.proofs.Answered.{judgedOf}
-use Rattle.table.specs.Rows.{rowAt}
+use Rattle.rule_table.specs.Rows.{rowAt}
 use Rattle.rules.specs.Claim.{newAt, droppedAt, claimAt, claimBy}
 
 -- A clause stands at the end of the line, before its last bracket.

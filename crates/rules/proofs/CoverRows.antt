@@ -21,8 +21,8 @@ use Rattle.text.specs.Write.{word, putLiterals}
 use Rattle.text.specs.Form.{formedLiteral}
 use Rattle.text.specs.Heads.{kindNumber, head}
 use Rattle.text.proofs.Heads.{minus-of, minus-other}
-use Rattle.parts.specs.Shapes.{stripAt, positiveAt}
-use Rattle.parts.proofs.Placing.{strip-stands, strip-past, past-strip, positive-stands, negative-past, head-stands, head-past, or-else-here, or-else-past}
+use Rattle.clauses.specs.Shapes.{stripAt, positiveAt}
+use Rattle.clauses.proofs.Placing.{strip-stands, strip-past, past-strip, positive-stands, negative-past, head-stands, head-past, or-else-here, or-else-past}
 use Rattle.filling.proofs.Claimed.{strip-chain}
 use Rattle.rules.proofs.Answered.{judgedOf, within-here, within-past, right-shape}
 use Rattle.rules.proofs.Meets.{Images, LiteralAt, Meets}
@@ -30,11 +30,11 @@ use Rattle.rules.proofs.TermsMeet.{missing, concluding}
 use Rattle.rules.proofs.Targets.{link-small, past-positive}
 use Rattle.rules.proofs.RowsMeet.{both-within, one-past, past-shape}
 use Rattle.rules.proofs.CoversMeet.{AtomAt, arrow-range, covers-meet}
-use Rattle.parts.specs.Shapes.{within}
-use Rattle.table.specs.Rows.{answer, rowAt, foundBy, resolved, agreesBy, factored}
-use Rattle.parts.specs.Shapes.{negativeAt}
+use Rattle.clauses.specs.Shapes.{within}
+use Rattle.rule_table.specs.Rows.{answer, rowAt, foundBy, resolved, agreesBy, factored}
+use Rattle.clauses.specs.Shapes.{negativeAt}
 use Rattle.filling.specs.Covers.{coversAt}
-use Rattle.parts.specs.Shapes.{sameSignAt, atomAt}
+use Rattle.clauses.specs.Shapes.{sameSignAt, atomAt}
 use Rattle.rules.specs.Claim.{newAt, newBy}
 
 module _ (depth : ℕ) where

@@ -25,8 +25,8 @@ use Rattle.text.specs.Heads.{arrowKind, kindNumber, head}
 use Rattle.text.proofs.Heads.{afterHead, strip-same}
 use Rattle.text.proofs.Nesting.{skip-term}
 use Rattle.text.proofs.Tests.{T-and, holds}
-use Rattle.parts.specs.Shapes.{stripAt, skipAt, nextAt, resultAt}
-use Rattle.parts.proofs.Placing.{Stands, walk-past, strip-stands, strip-past, past-strip, skip-stands, next-term, past-next, head-stands, head-past, fromMethod, result-stands}
+use Rattle.clauses.specs.Shapes.{stripAt, skipAt, nextAt, resultAt}
+use Rattle.clauses.proofs.Placing.{Stands, walk-past, strip-stands, strip-past, past-strip, skip-stands, next-term, past-next, head-stands, head-past, fromMethod, result-stands}
 use Rattle.rules.proofs.Targets.{link-arrow}
 use Rattle.filling.proofs.Agreed.{atoms-agree}
 use Rattle.rules.proofs.Answered.{within-here, within-past}
@@ -34,7 +34,7 @@ use Rattle.filling.proofs.NumberedFill.{fill-atom-over, atom-deeper}
 use Rattle.rules.proofs.Meets.{Images}
 use Rattle.rules.proofs.TermsMeet.{call-stands, calls-meet}
 use Rattle.filling.specs.Agree.{agreeAt, callsAt}
-use Rattle.parts.specs.Shapes.{within}
+use Rattle.clauses.specs.Shapes.{within}
 use Rattle.filling.specs.Covers.{headAt, bareAt, coversAt}
 
 module _ (depth : ℕ) where

@@ -22,21 +22,21 @@ use Rattle.logic.specs.StepChecks.{parentClause, parentA, parentB, below, paren
 use Rattle.logic.specs.Judge.{withNew, conclude, conclusion, judgeConclusion, judge}
 use Rattle.logic.proofs.Both.{left, right}
 use Rattle.logic.proofs.Over.{Over, fill-over}
-use Rattle.lines.specs.declared.forms.LineAt.{LineAt}
+use Rattle.reader.specs.declared.forms.LineAt.{LineAt}
 use Rattle.text.specs.Words.{bytes}
 use Rattle.text.specs.Write.{word, putLet, putTerms}
 use Rattle.text.specs.Form.{formedNumber, numbered, numbereds, formedTerms, formedStep, formedLine, formedClause, depthOfs, form, maxNumber}
 use Rattle.text.specs.Read.{readLine}
-use Rattle.lines.specs.LineAt.{fromFirst, fromSecond, fromClause, placeOf, lineOf}
+use Rattle.reader.specs.LineAt.{fromFirst, fromSecond, fromClause, placeOf, lineOf}
 use Rattle.text.proofs.Deep.{formedSymbol, each-numbered, entries-over, formed-over}
 use Rattle.text.proofs.Heads.{strip-same}
-use Rattle.lines.proofs.LineParts.{first-place, second-place, claim-place}
+use Rattle.reader.proofs.LineParts.{first-place, second-place, claim-place}
 use Rattle.text.proofs.Sound.{line-sound}
-use Rattle.uses.specs.Uses.{parentNumbers, unusedNumbers}
-use Rattle.parts.specs.Shapes.{stripAt}
+use Rattle.rule_numbers.specs.Uses.{parentNumbers, unusedNumbers}
+use Rattle.clauses.specs.Shapes.{stripAt}
 use Rattle.rules.specs.declared.steps.Size.{Size}
 use Rattle.rules.specs.Judging.{listsAt, concludeAt, settledAs, fillingPlaces, stepAt, HoldsClause, Judges}
-use Rattle.parts.proofs.Placing as placing
+use Rattle.clauses.proofs.Placing as placing
 use Rattle.filling.proofs.LineLists.{line-entry}
 use Rattle.rules.proofs.Meets.{Images}
 use Rattle.rules.proofs.Literals.{PartOf}
@@ -44,7 +44,7 @@ use Rattle.rules.proofs.Concluded.{ClaimAt, concluded}
 use Rattle.rules.proofs.RowsMeet.{refl-meets}
 use Rattle.rules.proofs.StepMeets.{given-over, two-meets}
 use Rattle.rules.proofs.RuleMeets.{bare, no-over, no-others, res-two, acy-two, sca-two, tra-two, inc-two, inh-two, inp-two, out-two, par-two, eli-answers, fac-answers}
-use Rattle.parts.specs.Shapes.{placeAt, listAt}
+use Rattle.clauses.specs.Shapes.{placeAt, listAt}
 
 module _ (depth : ℕ) where
   -- refl: no parent, and one entry.

@@ -22,12 +22,12 @@ use Rattle.text.proofs.Heads.{strip-same}
 use Rattle.text.proofs.Nesting.{putEach, fromItem, clause-item, skip-literal, howMany, how-many}
 use Rattle.text.proofs.Positions.{item-tail}
 use Rattle.text.specs.Places.{endOf}
-use Rattle.parts.specs.Shapes.{stripAt}
+use Rattle.clauses.specs.Shapes.{stripAt}
 use Rattle.filling.specs.Claims.{othersFrom, othersAt}
-use Rattle.parts.proofs.Placing.{Stands, walk-stands, walk-past, none-past, strip-stands}
+use Rattle.clauses.proofs.Placing.{Stands, walk-stands, walk-past, none-past, strip-stands}
 use Rattle.filling.proofs.Claimed.{withoutFrom, others-claimed}
 use Rattle.rules.proofs.Meets.{Images, LiteralAt}
-use Rattle.parts.specs.Shapes.{placeAt}
+use Rattle.clauses.specs.Shapes.{placeAt}
 
 module _ (depth : ℕ) where
   -- A part of the text that begins with a clause, formed.

@@ -11,11 +11,11 @@ use Rattle.logic.specs.Rules.{Agreement}
 use Rattle.logic.specs.Judge.{Conclusion, concludes}
 use Rattle.text.specs.Write.{putLiteral, putLiterals}
 use Rattle.text.specs.Form.{numbered, formedLiteral}
-use Rattle.parts.specs.Shapes.{stripAt}
-use Rattle.parts.proofs.Placing.{Stands}
+use Rattle.clauses.specs.Shapes.{stripAt}
+use Rattle.clauses.proofs.Placing.{Stands}
 use Rattle.filling.proofs.Grounds.{Entries}
 use Rattle.rules.proofs.Answered.{judgedOf}
-use Rattle.table.specs.Rows.{rowAt}
+use Rattle.rule_table.specs.Rows.{rowAt}
 use Rattle.rules.specs.Claim.{newAt}
 
 -- A list of the line gives the images of the variables below w, and their numbers are numbers N.

@@ -24,16 +24,16 @@ use Rattle.text.proofs.Gives.{Gives, nothing, gives, weaken}
 use Rattle.text.proofs.Positions.{Tail, End, end-refl, end-cons, strip-tail, and-tail}
 use Rattle.text.proofs.Tests.{onTest}
 use Rattle.filling.specs.Filled.{replacing, itemDepth, holeDepth}
-use Rattle.parts.specs.Shapes.{nextAt, firstAt}
+use Rattle.clauses.specs.Shapes.{nextAt, firstAt}
 use Rattle.logic.specs.Occurrence.{findLiteral}
 use Rattle.filling.proofs.LineLists.{stack-sum}
 use Rattle.filling.proofs.Occurring.{Occurs, nowhere, somewhere, occurs}
-use Rattle.parts.proofs.Placing.{walk-stands, walk-past}
+use Rattle.clauses.proofs.Placing.{walk-stands, walk-past}
 use Rattle.rules.proofs.TermsMeet.{TermAt}
 use Rattle.rules.proofs.RowsMeet.{LinkView, no-link, a-link, onLinkOf, link-view}
 use Rattle.rules.proofs.Rewrites.{rewriteAt, rewriteNewAt, Rewritten, not-rewritten, filler-entry, side-new, filler-hole, rewritten}
 use Rattle.rules.proofs.Meets.{Images, LiteralAt, Meets}
-use Rattle.table.specs.Rows.{rowAt, foundBy, replaced, agreesBy, partAt}
+use Rattle.rule_table.specs.Rows.{rowAt, foundBy, replaced, agreesBy, partAt}
 use Rattle.rules.specs.Claim.{newAt, newBy}
 
 -- The way to an occurrence ends within the bytes.

@@ -11,8 +11,8 @@ use Rattle.logic.specs.declared.Link.{Link}
 use Rattle.logic.specs.declared.Link.the-variants.{Sub}
 use Rattle.logic.specs.declared.Judged.{Judged}
 use Rattle.text.specs.Heads.{head, linkKind}
-use Rattle.table.specs.declared.rows.Target.{Target as Part}
-use Rattle.table.specs.declared.rows.Kind.the-variants.{Rewriting}
+use Rattle.rule_table.specs.declared.Target.{Target as Part}
+use Rattle.rule_table.specs.declared.Kind.the-variants.{Rewriting}
 use Rattle.logic.specs.declared.Rule.{Rule}
 use Rattle.logic.specs.declared.Judged.the-variants.{Misshapen}
 use Rattle.logic.specs.Syntax.{Term, Literal, Clause}
@@ -24,9 +24,9 @@ use Rattle.text.specs.Words.{bytes}
 use Rattle.text.specs.Write.{putTerm, putLiteral, putLiterals}
 use Rattle.text.specs.Read.{got}
 use Rattle.filling.specs.Filled.{Filler, fillItem, replacing, matches, endsOf, holeDepth}
-use Rattle.parts.specs.Shapes.{stripAt, nextAt, firstAt}
+use Rattle.clauses.specs.Shapes.{stripAt, nextAt, firstAt}
 use Rattle.filling.specs.Claims.{rewrittenAt}
-use Rattle.parts.proofs.Placing.{Stands}
+use Rattle.clauses.proofs.Placing.{Stands}
 use Rattle.filling.proofs.Claimed.{match-place, spaced-literal}
 use Rattle.rules.proofs.Answered.{judgedOf, right-shape}
 use Rattle.filling.proofs.LineLists.{replacing-entry, new-term}
@@ -34,9 +34,9 @@ use Rattle.rules.proofs.Targets.{Placed, missed, found, Aimed, past-sec
 use Rattle.rules.proofs.Meets.{Images, LiteralAt, Meets}
 use Rattle.rules.proofs.TermsMeet.{TermAt, term-meets}
 use Rattle.rules.proofs.RowsMeet.{LinkView, no-link, a-link, onLinkOf, link-view, both-within, past-shape}
-use Rattle.table.specs.Rows.{answer, rowOf, partAt, targetAt, rowAt, foundBy, replaced, agreesBy}
+use Rattle.rule_table.specs.Rows.{answer, rowOf, partAt, targetAt, rowAt, foundBy, replaced, agreesBy}
 use Rattle.filling.specs.Agree.{agreeAt}
-use Rattle.parts.specs.Shapes.{within}
+use Rattle.clauses.specs.Shapes.{within}
 use Rattle.rules.specs.Claim.{newAt, newBy}
 
 module _ (depth : ℕ) where

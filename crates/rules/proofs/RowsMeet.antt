@@ -27,16 +27,16 @@ use Rattle.text.specs.Form.{depthOf, numbered, formedTerm, formedAtom, formedLi
 use Rattle.text.specs.Heads.{linkKind, arrowKind, kindNumber, head}
 use Rattle.text.proofs.Heads.{afterHead}
 use Rattle.text.proofs.Tests.{T-and}
-use Rattle.parts.specs.Shapes.{stripAt, nextAt, positiveAt, firstAt, valueAt, objectAt}
-use Rattle.parts.proofs.Placing.{Stands, positive-stands, negative-past, head-stands, head-past, next-term, inner, either-stands, either-past, past-inner, value-of, value-none, past-value}
+use Rattle.clauses.specs.Shapes.{stripAt, nextAt, positiveAt, firstAt, valueAt, objectAt}
+use Rattle.clauses.proofs.Placing.{Stands, positive-stands, negative-past, head-stands, head-past, next-term, inner, either-stands, either-past, past-inner, value-of, value-none, past-value}
 use Rattle.rules.proofs.Targets.{kind-link, link-object, link-arrow, link-past, past-link, past-positive, past-second}
 use Rattle.rules.proofs.Answered.{judgedOf, within-here, within-past, right-shape}
 use Rattle.rules.proofs.Meets.{Images, LiteralAt, Meets}
 use Rattle.rules.proofs.TermsMeet.{TermAt, CallAt, call-stands, result-at, term-meets, calls-meet, linked-claimed, missing, concluding, term-deep}
 use Rattle.filling.specs.Filled.{itemDepth}
-use Rattle.parts.specs.Shapes.{within}
-use Rattle.table.specs.Rows.{answer, rowAt, foundBy, crossed, agreesBy, called}
-use Rattle.parts.specs.Shapes.{equalTests, sameArrowAt}
+use Rattle.clauses.specs.Shapes.{within}
+use Rattle.rule_table.specs.Rows.{answer, rowAt, foundBy, crossed, agreesBy, called}
+use Rattle.clauses.specs.Shapes.{equalTests, sameArrowAt}
 use Rattle.rules.specs.Claim.{newAt, newBy}
 use Rattle.filling.specs.Claims.{reflexiveAt, equatedAt}
 

@@ -21,29 +21,29 @@ use Rattle.logic.proofs.Over.{Over}
 use Rattle.text.specs.Write.{putLiterals}
 use Rattle.text.specs.Form.{formedNumber}
 use Rattle.text.proofs.Deep.{formedSymbol}
-use Rattle.parts.specs.Shapes.{positiveAt}
+use Rattle.clauses.specs.Shapes.{positiveAt}
 use Rattle.filling.specs.Claims.{othersFrom, othersAt}
 use Rattle.rules.specs.Judging.{thenClaim, concludeAt}
-use Rattle.parts.proofs.Placing.{Stands, positive-stands, negative-past}
+use Rattle.clauses.proofs.Placing.{Stands, positive-stands, negative-past}
 use Rattle.filling.proofs.Claimed.{withoutFrom}
 use Rattle.rules.proofs.Answered.{judgedOf, within-here, within-past}
 use Rattle.rules.proofs.Meets.{Images, LiteralAt, Meets}
 use Rattle.rules.proofs.RowsMeet.{refl-meets, acy-meets, sca-meets, acy-past, sca-past}
 use Rattle.rules.proofs.CoverRows.{res-meets, eli-meets, fac-judged, res-past, eli-past, fac-past}
 use Rattle.logic.proofs.Rewriting.{aim, rewrite, tra-rewrites, inc-rewrites, inh-rewrites, inp-rewrites, out-rewrites}
-use Rattle.table.specs.declared.rows.Kind.the-variants.{Rewriting}
-use Rattle.table.specs.declared.rows.Target.{Target as Part}
-use Rattle.table.specs.declared.rows.Target.the-variants.{Occurrence, Subclass, Member, Object, Argument, Result as Output}
+use Rattle.rule_table.specs.declared.Kind.the-variants.{Rewriting}
+use Rattle.rule_table.specs.declared.Target.{Target as Part}
+use Rattle.rule_table.specs.declared.Target.the-variants.{Occurrence, Subclass, Member, Object, Argument, Result as Output}
 use Rattle.rules.proofs.Targets.{Aimed, tra-placed, inc-placed, inh-placed, inp-placed, out-placed}
 use Rattle.rules.proofs.Rewrites.{sub-meets, rewrites-past}
 use Rattle.rules.proofs.ParMeets.{par-meets}
 use Rattle.rules.proofs.Literals.{PartOf, without, at-here, at-none, at-filled, at-none-filled, place-here, place-past, part-others, same-place}
 use Rattle.rules.proofs.Concluded.{ClaimAt, Expects, concluded}
 use Rattle.rules.proofs.StepMeets.{Taken, taken, absent, take-at, TwoParents, given-over, stops, two-meets}
-use Rattle.parts.specs.Shapes.{within}
-use Rattle.table.specs.Rows.{rowOf, rowAt, foundBy, factored}
+use Rattle.clauses.specs.Shapes.{within}
+use Rattle.rule_table.specs.Rows.{rowOf, rowAt, foundBy, factored}
 use Rattle.rules.specs.Claim.{newAt, newBy, droppedAt, claimAt}
-use Rattle.parts.specs.Shapes.{placeAt}
+use Rattle.clauses.specs.Shapes.{placeAt}
 
 -- What the rules with two parents take of the literals.
 module _ (A B : Parent) (i j k : ℕ) where

@@ -27,9 +27,9 @@ use Rattle.rules.proofs.Answered.{judgedOf}
 use Rattle.rules.proofs.Meets.{Images, LiteralAt, Meets}
 use Rattle.rules.proofs.Literals.{PartOf, without, at-here, at-none, at-filled, at-none-filled, place-here, place-past, part-others}
 use Rattle.rules.proofs.Concluded.{ClaimAt, Expects, concluded}
-use Rattle.table.specs.Rows.{rowAt}
+use Rattle.rule_table.specs.Rows.{rowAt}
 use Rattle.rules.specs.Claim.{newAt, droppedAt, claimAt}
-use Rattle.parts.specs.Shapes.{placeAt}
+use Rattle.clauses.specs.Shapes.{placeAt}
 
 -- The literal at a position, or none.
 pub data Taken (n : ℕ) (c : Clause) : Type 0 where

@@ -35,14 +35,14 @@ use Rattle.text.proofs.Gives.{Gives, nothing, gives}
 use Rattle.text.proofs.Positions.{Tail, End, end-refl, strip-tail, skip-tail, item-tail, and-tail}
 use Rattle.text.specs.Heads.{linkKind, arrowKind, kindNumber, head}
 use Rattle.text.proofs.Heads.{afterHead}
-use Rattle.parts.specs.Shapes.{stripAt, nextAt, positiveAt, firstAt, valueAt, objectAt, argumentAt}
+use Rattle.clauses.specs.Shapes.{stripAt, nextAt, positiveAt, firstAt, valueAt, objectAt, argumentAt}
 use Rattle.filling.specs.Filled.{Filler, fillItem, itemDepth, holeDepth}
 use Rattle.filling.proofs.LineLists.{stack-sum}
 use Rattle.filling.proofs.Placed.{Argument as Chosen, first, next, replaced, hole-second, hole-object, hole-argument, hole-result}
-use Rattle.parts.proofs.Placing.{Stands, walk-stands, walk-past, none-past, fromMethod, inner, past-inner, past-value, result-stands, either-past, either-stands, value-of, value-none, next-term, past-next, past-strip, positive-stands, negative-past, head-stands, head-past}
-use Rattle.table.specs.declared.rows.Target.{Target as Part}
-use Rattle.table.specs.declared.rows.Target.the-variants.{Nothing, Occurrence, Subclass, Member, Object as Owner, Argument as Input, Result as Output}
-use Rattle.table.specs.Rows.{targetAt, partAt}
+use Rattle.clauses.proofs.Placing.{Stands, walk-stands, walk-past, none-past, fromMethod, inner, past-inner, past-value, result-stands, either-past, either-stands, value-of, value-none, next-term, past-next, past-strip, positive-stands, negative-past, head-stands, head-past}
+use Rattle.rule_table.specs.declared.Target.{Target as Part}
+use Rattle.rule_table.specs.declared.Target.the-variants.{Nothing, Occurrence, Subclass, Member, Object as Owner, Argument as Input, Result as Output}
+use Rattle.rule_table.specs.Rows.{targetAt, partAt}
 
 module _ (depth : ℕ) where
   -- A target of the literal l, which `rest` follows: it is formed, its variables are below w, and filling with the hole at it, which `left` follows, puts

@@ -24,19 +24,19 @@ use Rattle.text.proofs.Plain.{in-front, term-plain}
 use Rattle.text.proofs.Tests.{T-and}
 use Rattle.text.proofs.Trees.{join-width}
 use Rattle.filling.specs.Filled.{matches, endsOf, itemDepth}
-use Rattle.parts.specs.Shapes.{stripAt, nextAt, resultAt}
+use Rattle.clauses.specs.Shapes.{stripAt, nextAt, resultAt}
 use Rattle.filling.specs.Claims.{filledAt, linkedAt}
 use Rattle.filling.proofs.Filling.{tree-term}
 use Rattle.filling.proofs.Grounds.{Entries, filled-by}
 use Rattle.text.proofs.Trees.{treeTerm, put-term, clean-term, within-term}
-use Rattle.parts.proofs.Placing.{Stands, fromMethod, next-term, result-stands}
+use Rattle.clauses.proofs.Placing.{Stands, fromMethod, next-term, result-stands}
 use Rattle.filling.proofs.Claimed.{strip-chain, match-place}
 use Rattle.filling.proofs.Agreed.{terms-agree, arguments-agree}
 use Rattle.rules.proofs.Answered.{judgedOf}
 use Rattle.filling.proofs.NumberedFill.{fill-numbered, fills-numbered, term-deeper, terms-deeper}
 use Rattle.rules.proofs.Meets.{Images, Meets}
 use Rattle.filling.specs.Agree.{agreeAt, callsAt}
-use Rattle.table.specs.Rows.{rowAt}
+use Rattle.rule_table.specs.Rows.{rowAt}
 use Rattle.rules.specs.Claim.{newAt}
 
 module _ (depth : ℕ) where

@@ -7,14 +7,14 @@ use mathlib.Core.List.{List}
 use Rattle.logic.specs.declared.Rule.{Rule}
 use Rattle.logic.specs.Rules.{uses}
 use Rattle.text.specs.Words.{bytes}
-use Rattle.parts.specs.Shapes.{stripAt, positiveAt}
-use Rattle.parts.specs.Shapes.{within}
+use Rattle.clauses.specs.Shapes.{stripAt, positiveAt}
+use Rattle.clauses.specs.Shapes.{within}
 use Rattle.filling.specs.Claims.{rewrittenAt, reflexiveAt, equatedAt, othersAt}
-use Rattle.table.specs.declared.rows.Kind.{Kind}
-use Rattle.table.specs.declared.rows.Kind.the-variants.{Reflexivity, Resolution, Factoring, Rewriting, Acyclicity, Scalarity, Elimination}
-use Rattle.table.specs.declared.rows.Found.{Found}
+use Rattle.rule_table.specs.declared.Kind.{Kind}
+use Rattle.rule_table.specs.declared.Kind.the-variants.{Reflexivity, Resolution, Factoring, Rewriting, Acyclicity, Scalarity, Elimination}
+use Rattle.rule_table.specs.declared.Found.{Found}
 use Rattle.rules.specs.declared.claims.Kept.{Kept}
-use Rattle.table.specs.Rows.{foundAt}
+use Rattle.rule_table.specs.Rows.{foundAt}
 
 -- R8 to R19, "new literal, filled": the new literal, if there is one, after a space.
 unfoldable pub newBy : ℕ → Kind → Found → List ℕ → List ℕ → List ℕ → List ℕ → List ℕ → List ℕ → ℕ → ℕ

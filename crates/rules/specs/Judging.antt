@@ -17,12 +17,12 @@ use Rattle.logic.specs.Judge.{judge}
 use Rattle.text.specs.Write.{putClause}
 use Rattle.text.specs.Form.{formedClause, form}
 use Rattle.text.specs.Read.{readLine}
-use Rattle.lines.specs.declared.forms.LineAt.{LineAt}
-use Rattle.lines.specs.LineAt.{lineOf}
-use Rattle.parts.specs.Shapes.{placeAt, listAt}
+use Rattle.reader.specs.declared.forms.LineAt.{LineAt}
+use Rattle.reader.specs.LineAt.{lineOf}
+use Rattle.clauses.specs.Shapes.{placeAt, listAt}
 use Rattle.rules.specs.declared.steps.Size.{Size}
-use Rattle.uses.specs.Uses.{parentNumbers, unusedNumbers}
-use Rattle.table.specs.Rows.{rowAt}
+use Rattle.rule_numbers.specs.Uses.{parentNumbers, unusedNumbers}
+use Rattle.rule_table.specs.Rows.{rowAt}
 use Rattle.rules.specs.Claim.{claimAt}
 
 -- R3: "The list of a used parent has exactly as many terms as the parent's highest variable plus 1, and 0 where it has no variable. The

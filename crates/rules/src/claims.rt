@@ -7,13 +7,13 @@ use filling::claims::equated;
 use filling::claims::others;
 use filling::claims::reflexive;
 use filling::claims::rewritten;
-use table::rows::Found;
-use table::rows::Kind;
+use rule_table::Found;
+use rule_table::Kind;
 ghost use mathlib.Core.Path.{_≡_};
 ghost use lib.Dec.{eqb};
 ghost use lib.ListN.{length};
 ghost use Rattle.text.specs.Words.{bytes};
-ghost use Rattle.parts.specs.Shapes.{stripAt};
+ghost use Rattle.clauses.specs.Shapes.{stripAt};
 ghost use Rattle.rules.specs.Claim.{newBy, claimBy};
 
 // What the claim keeps, of terms that nest at most `depth` deep: of A's first `a` literals all but literal i, of B's first `b` all but

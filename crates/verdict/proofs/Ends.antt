@@ -8,15 +8,15 @@ use borrow.Author.Tests.{eq-eqb, ne-eqb, ltb-true}
 use lib.Dec.{eqb, ltb}
 use lib.ListN.{length, getD, take, length-take, length-append, length-map}
 use Rattle.logic.specs.Syntax.{Clause}
-use Rattle.reader.specs.declared.states.HeldState as code
-use Rattle.reader.specs.State.{State, claimOf, clauses, hasConstant}
-use Rattle.reader.specs.ReadLine.{heldTable}
-use Rattle.reader.specs.Represents.{Represents}
+use Rattle.state.specs.declared.HeldState as code
+use Rattle.state.specs.State.{State, claimOf, clauses, hasConstant}
+use Rattle.state.specs.ReadLine.{heldTable}
+use Rattle.state.specs.Represents.{Represents}
 use Rattle.logic.specs.Reach.{ParentsFall, restsOn}
 use Rattle.text.specs.Figures.{office}
 use Rattle.descent.specs.Walk.{inputsFrom}
 use Rattle.descent.proofs.Walking.{walk-rests}
-use Rattle.ends.specs.Ends.{firstZero, endsAs, marksAs}
+use Rattle.outcome.specs.Ends.{firstZero, endsAs, marksAs}
 use Rattle.meaning.specs.declared.Verdict.the-variants.{Refuted, Open, Refused}
 use Rattle.meaning.specs.Means.{named}
 use Rattle.meaning.specs.Answer.{isNil, firstEmpty, acceptedAs, finish, restsIn}

@@ -10,13 +10,13 @@ use Rattle.logic.specs.Syntax.{Terms, Step, by}
 use Rattle.logic.specs.Terms.{count}
 use Rattle.logic.proofs.Both.{left, right}
 use Rattle.text.specs.Form.{form}
-use Rattle.lines.specs.declared.forms.LineAt.{LineAt}
-use Rattle.lines.specs.LineAt.{lineOf}
-use Rattle.reader.specs.declared.states.HeldState as code
-use Rattle.reader.specs.State.{State, clauses, listFits, withinLimits, ordered, constantReady}
-use Rattle.reader.specs.Failure.{lineFailure, readFailure}
-use Rattle.reader.specs.Represents.{Represents}
-use Rattle.reader.proofs.StateCode.{zero-or}
+use Rattle.reader.specs.declared.forms.LineAt.{LineAt}
+use Rattle.reader.specs.LineAt.{lineOf}
+use Rattle.state.specs.declared.HeldState as code
+use Rattle.state.specs.State.{State, clauses, listFits, withinLimits, ordered, constantReady}
+use Rattle.state.specs.Failure.{lineFailure, readFailure}
+use Rattle.state.specs.Represents.{Represents}
+use Rattle.state.proofs.StateCode.{zero-or}
 use Rattle.rules.specs.declared.steps.Size.{Size}
 use Rattle.rules.specs.Judging.{HoldsClause, Judges}
 use Rattle.verdict.specs.declared.HeldClause.{HeldClause}

@@ -18,22 +18,22 @@ use Rattle.logic.specs.StepChecks.{judgedNumber}
 use Rattle.logic.proofs.Descending.{given-falls}
 use Rattle.descent.specs.declared.Parents.{Parents}
 use Rattle.descent.specs.Walk.{parentsBy, parentsOf, HeldFrom}
-use Rattle.ends.specs.Ends.{firstZero, endsAs, marksAs}
-use Rattle.lines.specs.declared.forms.LineAt.{LineAt}
-use Rattle.reader.specs.declared.states.HeldState as code
-use Rattle.reader.specs.declared.states.Seen.{Seen}
-use Rattle.reader.specs.declared.states.Added.{Added}
+use Rattle.outcome.specs.Ends.{firstZero, endsAs, marksAs}
+use Rattle.reader.specs.declared.forms.LineAt.{LineAt}
+use Rattle.state.specs.declared.HeldState as code
+use Rattle.state.specs.declared.Seen.{Seen}
+use Rattle.state.specs.declared.Added.{Added}
 use Rattle.text.specs.Form.{Reading, form, noForm}
 use Rattle.text.specs.Read.{strip, oneOf, readForm, whole, readLine, readRaw}
 use Rattle.text.specs.Split.{Raw, ended, unended, split, tooLarge}
 use Rattle.text.specs.declared.Figures.{Figures}
 use Rattle.text.specs.Figures.{office, UpToOffice}
 use Rattle.text.specs.Size.{lineLength, firstLine}
-use Rattle.lines.specs.LineAt.{formNumber, lineOf}
-use Rattle.reader.specs.ReadLine.{heldTable, withAdded, slotOf}
-use Rattle.reader.specs.State.{State, fresh, claimOf, clauses, hasConstant, advance, ordered, constantReady, withinLimits, symbolsDeclared, after, stateAfter}
-use Rattle.reader.specs.Failure.{lineFailure, readFailure}
-use Rattle.reader.specs.Represents.{Represents, Begins, Sees, LineStands, Adds}
+use Rattle.reader.specs.LineAt.{formNumber, lineOf}
+use Rattle.state.specs.ReadLine.{heldTable, withAdded, slotOf}
+use Rattle.state.specs.State.{State, fresh, claimOf, clauses, hasConstant, advance, ordered, constantReady, withinLimits, symbolsDeclared, after, stateAfter}
+use Rattle.state.specs.Failure.{lineFailure, readFailure}
+use Rattle.state.specs.Represents.{Represents, Begins, Sees, LineStands, Adds}
 use Rattle.text.proofs.Sizes.{bytes-ended, bytes-unended, bytes-length, split-at, split-over}
 use Rattle.meaning.specs.declared.Verdict.{Verdict}
 use Rattle.meaning.specs.declared.Verdict.the-variants.{Refused}

@@ -13,10 +13,10 @@ use lib.ListN.{length, set, take, drop, length-append, length-map, length-drop}
 use lib.Seq.{drop-drop, drop-append-le}
 use Rattle.descent.specs.declared.Parents.{Parents}
 use Rattle.descent.specs.Walk.{parentsBy}
-use Rattle.ends.specs.Ends.{firstZero, endsAs, marksAs}
-use Rattle.reader.specs.declared.states.HeldState as code
-use Rattle.reader.specs.declared.states.Seen.{Seen}
-use Rattle.reader.specs.declared.states.Added.{Added}
+use Rattle.outcome.specs.Ends.{firstZero, endsAs, marksAs}
+use Rattle.state.specs.declared.HeldState as code
+use Rattle.state.specs.declared.Seen.{Seen}
+use Rattle.state.specs.declared.Added.{Added}
 use Rattle.text.specs.Read.{readLine, readRaw}
 use Rattle.text.specs.Split.{split, tooLarge}
 use Rattle.text.specs.declared.Figures.{Figures}
@@ -24,9 +24,9 @@ use Rattle.text.specs.Figures.{office, maxSymbols, UpToOffice}
 use Rattle.text.specs.Size.{firstLine, partAt}
 use Rattle.text.proofs.Places.{past}
 use Rattle.text.proofs.Sizes.{part-on}
-use Rattle.reader.specs.ReadLine.{heldTable, withSymbol, withClause, withAdded}
-use Rattle.reader.specs.State.{State, fresh, clauses, hasConstant, after}
-use Rattle.reader.specs.Represents.{Represents, Begins, LineStands, Adds}
+use Rattle.state.specs.ReadLine.{heldTable, withSymbol, withClause, withAdded}
+use Rattle.state.specs.State.{State, fresh, clauses, hasConstant, after}
+use Rattle.state.specs.Represents.{Represents, Begins, LineStands, Adds}
 use Rattle.meaning.specs.declared.Verdict.{Verdict}
 use Rattle.meaning.specs.declared.Verdict.the-variants.{Refuted, Open, Refused}
 use Rattle.meaning.specs.Checks.{readings, stateOf}

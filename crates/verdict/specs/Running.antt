@@ -6,20 +6,20 @@ use lib.Dec.{eqb}
 use mathlib.Core.List.{List}
 use mathlib.Core.Path.{_≡_}
 use lib.ListN.{length, getD}
-use Rattle.reader.specs.declared.states.HeldState as code
-use Rattle.reader.specs.declared.states.Seen.{Seen}
+use Rattle.state.specs.declared.HeldState as code
+use Rattle.state.specs.declared.Seen.{Seen}
 use Rattle.logic.specs.declared.Judged.{Judged}
 use Rattle.logic.specs.Syntax.{Step, by}
 use Rattle.logic.specs.Judge.{judge}
 use Rattle.descent.specs.Walk.{parentsOf, HeldFrom}
-use Rattle.lines.specs.declared.forms.LineAt.{LineAt}
-use Rattle.lines.specs.LineAt.{lineOf}
+use Rattle.reader.specs.declared.forms.LineAt.{LineAt}
+use Rattle.reader.specs.LineAt.{lineOf}
 use Rattle.text.specs.declared.Figures.{Figures}
 use Rattle.text.specs.Form.{form}
 use Rattle.text.specs.Read.{readLine}
-use Rattle.reader.specs.State.{State, clauses, hasConstant}
-use Rattle.reader.specs.Represents.{Represents}
-use Rattle.reader.specs.Failure.{readFailure}
+use Rattle.state.specs.State.{State, clauses, hasConstant}
+use Rattle.state.specs.Represents.{Represents}
+use Rattle.state.specs.Failure.{readFailure}
 use Rattle.meaning.specs.declared.Verdict.{Verdict}
 use Rattle.verdict.specs.declared.HeldClause.{HeldClause}
 use Rattle.meaning.specs.Checks.{tooLarge}

@@ -1,6 +1,6 @@
 -- `console::print` is safe and ends: the lines lie within the buffer.
 -- Assumes nothing.
-use Rattle.answer.proofs.Stores.{lines-counts}
+use Rattle.print.proofs.Stores.{lines-counts}
 use Rattle.console.proofs.print.Statement.{statement}
 use Rattle.console.proofs.print.Tie as tie
 

@@ -1,6 +1,6 @@
 -- `descent::used_parents` meets its contract.
 use mathlib.Core.Path.{_≡_, refl}
-use Rattle.uses.specs.Uses.{usesAt}
+use Rattle.rule_numbers.specs.Uses.{usesAt}
 use Rattle.descent.specs.Walk.{parentsBy}
 use Rattle.descent.proofs.used_parents.Statement.{statement}
 use Rattle.descent.proofs.used_parents.Tie as tie

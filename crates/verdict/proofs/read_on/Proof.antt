@@ -9,7 +9,7 @@ use lib.ListN.{length, length-set, length-replicate}
 use Rattle.text.specs.Figures.{office}
 use Rattle.text.specs.Size.{firstLine}
 use native.Mathlib.Omega.{arith}
-use Rattle.reader.specs.ReadLine.{heldTable}
+use Rattle.state.specs.ReadLine.{heldTable}
 use Rattle.verdict.proofs.Running.{text-within, line-number, line-added, line-parented, slot-below, held-of, held-within}
 use Rattle.verdict.proofs.TwoTexts.{Came, Ahead, LineRead, part-some, came-first, came-ahead, came-end, came-as, lines-within, seam-refused, line-answer, line-stands, line-after, room-here, symbol-came, clause-came, symbol-room}
 use Rattle.verdict.proofs.read_on.Statement.{statement}

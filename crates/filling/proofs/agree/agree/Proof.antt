@@ -2,7 +2,7 @@ use borrow.Author.Tests.{ne-eqb}
 use mathlib.Core.Path.{refl, _∙_, ap}
 use denote.Ref.{now}
 use Rattle.filling.specs.declared.compare.Ends.{Ends}
-use Rattle.parts.specs.Shapes.{within}
+use Rattle.clauses.specs.Shapes.{within}
 use Rattle.filling.specs.Agree.{standsAt, agreeAt}
 use Rattle.filling.proofs.agree.agree.Statement.{statement}
 use Rattle.filling.proofs.agree.agree.Tie as tie

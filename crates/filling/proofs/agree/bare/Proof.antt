@@ -1,8 +1,8 @@
 use mathlib.Core.Path.{_≡_, refl, sym, _∙_}
 use mathlib.Core.Bool.{true, false}
 use Rattle.filling.specs.Covers.{headAt, bareAt}
-use Rattle.parts.specs.Shapes.{stripAt, resultAt}
-use Rattle.parts.specs.Shapes.{within}
+use Rattle.clauses.specs.Shapes.{stripAt, resultAt}
+use Rattle.clauses.specs.Shapes.{within}
 use Rattle.text.specs.Words.{bytes}
 use denote.Ref.{now}
 use Rattle.filling.proofs.agree.bare.Statement.{statement}

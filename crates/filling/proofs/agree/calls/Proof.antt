@@ -1,7 +1,7 @@
 use denote.Ref.{now}
 use mathlib.Core.Bool.{true, false}
 use mathlib.Core.Path.{_≡_, refl, sym, _∙_}
-use Rattle.parts.specs.Shapes.{nextAt}
+use Rattle.clauses.specs.Shapes.{nextAt}
 use Rattle.filling.specs.Agree.{agreeAt, callsAt}
 use Rattle.filling.proofs.agree.calls.Statement.{statement}
 use Rattle.filling.proofs.agree.calls.Tie as tie

@@ -1,7 +1,7 @@
 use mathlib.Core.Path.{refl}
 use Rattle.filling.proofs.claims.begin.Statement.{statement}
 use Rattle.filling.proofs.claims.begin.Tie as tie
-use Rattle.parts.specs.Shapes.{stripAt}
+use Rattle.clauses.specs.Shapes.{stripAt}
 
 returns : tie.Need-returns
 unfolding stripAt

@@ -1,5 +1,5 @@
 use mathlib.Core.Path.{refl}
-use Rattle.parts.specs.Shapes.{stripAt}
+use Rattle.clauses.specs.Shapes.{stripAt}
 use Rattle.filling.specs.Claims.{keptAt}
 use borrow.Author.Needs.{needs}
 use Rattle.filling.proofs.claims.kept.Statement.{statement}

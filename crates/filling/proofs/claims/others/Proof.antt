@@ -9,7 +9,7 @@ use borrow.Author.Needs.{needs}
 use Rattle.text.specs.Read.{strip}
 use Rattle.text.specs.Places.{endOf}
 use Rattle.filling.specs.declared.compare.Ends.{Ends}
-use Rattle.parts.specs.Shapes.{stripAt, skipAt}
+use Rattle.clauses.specs.Shapes.{stripAt, skipAt}
 use Rattle.filling.specs.Claims.{keptAt, othersFrom, othersAt}
 use Rattle.filling.proofs.Claiming.{others-kept, others-dropped, others-last, others-end}
 use Rattle.filling.proofs.claims.others.Statement.{statement}

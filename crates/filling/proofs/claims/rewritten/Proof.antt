@@ -3,7 +3,7 @@ use mathlib.Core.Path.{ap, refl}
 use Rattle.filling.proofs.claims.rewritten.Statement.{statement}
 use Rattle.filling.proofs.claims.rewritten.Tie as tie
 use Rattle.filling.specs.Claims.{rewrittenAt}
-use Rattle.parts.specs.Shapes.{stripAt}
+use Rattle.clauses.specs.Shapes.{stripAt}
 use Rattle.filling.specs.declared.compare.Ends.{Ends}
 
 returns : tie.Need-returns

@@ -20,7 +20,7 @@ use Rattle.filling.proofs.compare.nested.Reads as nested-reads
 use Rattle.filling.proofs.compare.past.Reads as past-reads
 use Rattle.filling.proofs.compare.reach.Reads as reach-reads
 use Rattle.filling.proofs.compare.unbroken.Reads as unbroken-reads
-use Rattle.parts.proofs.access.skip.Reads as skip-reads
+use Rattle.clauses.proofs.access.skip.Reads as skip-reads
 use Rattle.scan.proofs.words.word.Reads as word-reads
 use Rattle.filling.proofs.compare.+expect.{statement}
 use Rattle.filling.proofs.compare.+expect.Tie.{close}

@@ -1,4 +1,4 @@
-use Rattle.parts.specs.Shapes.{stripAt}
+use Rattle.clauses.specs.Shapes.{stripAt}
 use Rattle.rules.specs.Claim.{claimBy}
 use Rattle.rules.proofs.claims.claimed.Statement.{statement}
 use Rattle.rules.proofs.claims.claimed.Tie as tie

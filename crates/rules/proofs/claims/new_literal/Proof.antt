@@ -1,6 +1,6 @@
 use mathlib.Core.Path.{_≡_}
 use Rattle.rules.specs.Claim.{newBy}
-use Rattle.table.specs.declared.rows.Kind.the-variants.{Reflexivity, Resolution, Factoring, Rewriting, Acyclicity, Scalarity, Elimination}
+use Rattle.rule_table.specs.declared.Kind.the-variants.{Reflexivity, Resolution, Factoring, Rewriting, Acyclicity, Scalarity, Elimination}
 use borrow.Author.Needs.{needs}
 use Rattle.rules.proofs.claims.new_literal.Statement.{statement}
 use Rattle.rules.proofs.claims.new_literal.Tie as tie

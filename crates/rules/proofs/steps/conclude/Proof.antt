@@ -1,5 +1,5 @@
-use Rattle.uses.specs.Uses.{usesAt}
-use Rattle.table.specs.Rows.{rowAt}
+use Rattle.rule_numbers.specs.Uses.{usesAt}
+use Rattle.rule_table.specs.Rows.{rowAt}
 use Rattle.rules.specs.Claim.{claimAt}
 use Rattle.rules.specs.Judging.{concludeAt}
 use Rattle.rules.proofs.steps.conclude.Statement.{statement}

@@ -6,9 +6,9 @@ use mathlib.Core.List.{List}
 use Prim.Native.Nat.{ℕ}
 use mathlib.Core.Path.{_≡_, sym, subst, _∙_, refl}
 use Rattle.logic.specs.declared.Judged.{Judged}
-use Rattle.lines.specs.declared.forms.LineAt.{LineAt}
+use Rattle.reader.specs.declared.forms.LineAt.{LineAt}
 use Rattle.rules.specs.declared.steps.Size.{Size}
-use Rattle.uses.specs.Uses.{usesAt}
+use Rattle.rule_numbers.specs.Uses.{usesAt}
 use Rattle.rules.specs.Judging.{stepAt, Judges}
 use Rattle.rules.proofs.JudgeMeets.{judge-meets}
 use Rattle.rules.proofs.steps.judge.Statement.{statement}

@@ -1,4 +1,4 @@
-use Rattle.table.specs.Rows.{answer}
+use Rattle.rule_table.specs.Rows.{answer}
 use Rattle.rules.specs.Judging.{thenClaim}
 use Rattle.rules.proofs.steps.judged.Statement.{statement}
 use Rattle.rules.proofs.steps.judged.Tie as tie

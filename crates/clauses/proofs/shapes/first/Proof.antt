@@ -1,0 +1,12 @@
+use Rattle.clauses.specs.Shapes.{firstAt, stripAt}
+use Rattle.clauses.proofs.shapes.first.Statement.{statement}
+use Rattle.clauses.proofs.shapes.first.Tie as tie
+
+returns : tie.Need-returns
+unfolding firstAt stripAt
+returns c = cc
+
+pub first-spec : {M : Type 1} → statement M
+first-spec =
+    tie.close (tie.spec
+    (λ c κs. tt) (λ c κs. tt) returns)

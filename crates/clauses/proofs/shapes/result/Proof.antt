@@ -1,0 +1,13 @@
+use mathlib.Core.Path.{refl}
+use Rattle.clauses.specs.Shapes.{resultAt}
+use Rattle.clauses.proofs.shapes.result.Statement.{statement}
+use Rattle.clauses.proofs.shapes.result.Tie as tie
+
+returns : tie.Need-returns
+unfolding resultAt
+returns c = (cc, refl)
+
+pub result-spec : {M : Type 1} → statement M
+result-spec =
+    tie.close (tie.spec
+    (λ c κs. tt) (λ c κs. tt) (λ c κs. tt) returns)

@@ -1,6 +1,0 @@
-pub mod Measuring
-pub mod Loop
-pub mod Parts
-pub mod AtomParts
-pub mod ClauseParts
-pub mod LineParts

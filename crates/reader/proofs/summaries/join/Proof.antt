@@ -1,0 +1,12 @@
+use Rattle.reader.specs.Summary.{joined}
+use Rattle.reader.proofs.summaries.join.Statement.{statement}
+use Rattle.reader.proofs.summaries.join.Tie as tie
+
+returns : tie.Need-returns
+unfolding joined
+returns c = cc
+
+pub join-spec : {M : Type 1} → statement M
+join-spec =
+    tie.close (tie.spec
+    (λ c κs. tt) (λ c κs. tt) (λ c κs. tt) returns)

@@ -1,0 +1,12 @@
+use Rattle.rule_table.specs.Rows.{resolved}
+use Rattle.rule_table.proofs.resolution.Statement.{statement}
+use Rattle.rule_table.proofs.resolution.Tie as tie
+
+returns : tie.Need-returns
+unfolding resolved
+returns c = cc
+
+pub resolution-spec : {M : Type 1} → statement M
+resolution-spec =
+    tie.close (tie.spec
+    (λ c κs. tt) (λ c κs. tt) (λ c κs. tt) (λ c κs. tt) (λ c κs. tt) returns)

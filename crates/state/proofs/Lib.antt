@@ -1,0 +1,3 @@
+pub mod StateCode
+pub mod Limits
+pub mod Held

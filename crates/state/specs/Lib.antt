@@ -1,0 +1,4 @@
+pub mod State
+pub mod Failure
+pub mod ReadLine
+pub mod Represents
