@@ -14,8 +14,9 @@ use Rattle.scan.specs.declared.numbers.NumberAt.{NumberAt}
 use Rattle.reader.specs.declared.measures.Measure.{Measure}
 use Rattle.reader.specs.declared.summaries.Summary.{Summary}
 use Rattle.scan.specs.declared.tables.RuleAt.{RuleAt}
-use Rattle.reader.specs.declared.forms.Form.the-variants.{NoForm, Sym, Input, By}
+use Rattle.reader.specs.declared.forms.ItemAt.{ItemAt}
 use Rattle.reader.specs.declared.forms.LineAt.{LineAt}
+use Rattle.reader.specs.declared.forms.LineAt.the-variants.{NoForm, Sym, Input, By}
 use Rattle.text.specs.Read.{rules, Parsed, bad, got, Reader, andThen, strip, _⇒_, oneOf, readNumber, readClause, readLet, readRule, readSym, readInput, readStep, readForm, whole, readLine}
 use Rattle.text.specs.Words.{bytes, ruleWord}
 use Rattle.text.specs.Write.{Writer, _∘_, word, putNumber, putClause, putLet, putStep, putLine, writeLine}
@@ -23,8 +24,8 @@ use Rattle.text.specs.Form.{form}
 use Rattle.text.specs.Places.{endOf, readOr}
 use Rattle.scan.specs.Numbers.{numberAt}
 use Rattle.scan.specs.Tables.{ruleAt}
-use Rattle.reader.specs.Summary.{empty, joined, summary, termsMeasure, clauseMeasure}
-use Rattle.reader.specs.LineAt.{readSpaced, fromClause, fromSecond, fromFirst, placeOf, shortLine, stepMeasure, lineOf}
+use Rattle.reader.specs.Summary.{summary, termsMeasure, clauseMeasure}
+use Rattle.reader.specs.LineAt.{readSpaced, fromClause, fromSecond, fromFirst, placeOf, stepOf, lineOf}
 use Rattle.text.proofs.Gives.{given, strip-gives, skipped, finally}
 use Rattle.text.proofs.Number.{number-sound}
 use Rattle.text.proofs.Plain.{Plain, _⨾_, plain, number-plain, rule-plain, let-plain}
@@ -58,7 +59,7 @@ unfolding whole
 line-whole table s (lost b l) q = absurd (omega arith)
 line-whole table s {e} (found x g l r) q = r q ∙ rw (g, past s e (omega arith))
 
-pub line-broken : (table s : List ℕ) {p : Parsed Line} {e : ℕ} {R : Line → Type 0} → Track s R p e → (e ≡ length s → ⊥) → shortLine NoForm 0 0 0 empty ≡ lineOf table s (whole p)
+pub line-broken : (table s : List ℕ) {p : Parsed Line} {e : ℕ} {R : Line → Type 0} → Track s R p e → (e ≡ length s → ⊥) → NoForm ≡ lineOf table s (whole p)
 unfolding whole lineOf
 line-broken table s (lost b l) n = rw b
 line-broken table s {e} (found x g l r) n = rw (g, at-byte s e (omega arith))
@@ -66,20 +67,23 @@ line-broken table s {e} (found x g l r) n = rw (g, at-byte s e (omega arith))
 rule-value : (s : List ℕ) {p : Parsed Rule} {x : Rule} {rest : List ℕ} {r : RuleAt} → r ≡ ruleAt s p → p ≡ got x rest → r .rule ≡ x
 rule-value s h e = ap (λ (r : RuleAt). r .rule) h ∙ ap (readOr Eli (λ x. x)) e
 
+-- A list or a clause as it was read: its place and its measure.
+abbrev item : ℕ → Measure → ItemAt
+item at m = record { start = at; measure = m }
+
 -- The parts of a step as they were read are the parts of the line.
-step-path : (table s : List ℕ) (st : Step) {v : Rule} {a i b j k first second claim : ℕ} {m mf mg mc : Measure} {r₁ r₂ r₃ : List ℕ} → v ≡ st .rule → a ≡ st .a → i ≡ st .i → b ≡ st .b → j ≡ st .j → k ≡ st .k → first ≤ length s → second ≤ length s → claim ≤ length s
+step-path : (table s : List ℕ) (st : Step) {v : Rule} {a i b j k first second claim : ℕ} {mf mg mc : Measure} {r₁ r₂ r₃ : List ℕ} → v ≡ st .rule → a ≡ st .a → i ≡ st .i → b ≡ st .b → j ≡ st .j → k ≡ st .k → first ≤ length s → second ≤ length s → claim ≤ length s
     → drop first s ≡ putLet (st .first) r₁ → r₁ ≡ word " " (drop second s) → drop second s ≡ putLet (st .second) r₂ → r₂ ≡ word " " (drop claim s) → drop claim s ≡ putClause (st .claim) r₃ → r₃ ≡ word ")" []
-    → mf ≡ termsMeasure table (st .first) → mg ≡ termsMeasure table (st .second) → mc ≡ clauseMeasure table (st .claim) → m ≡ joined mc (joined mf mg) → record { form = By; rule = v; a = a; i = i; b = b; j = j; k = k; first = first; second = second; clause = claim; width = mc .width; firsts = mf .count; seconds = mg .count; measure = m } ≡ lineOf table s (form (by st))
-unfolding lineOf stepMeasure fromFirst fromSecond fromClause termsMeasure clauseMeasure
-step-path table s st ev ea ei eb ej ek n₁ n₂ n₃ p₁ q₁ p₂ q₂ p₃ q₃ ef eg ec em =
+    → mf ≡ termsMeasure table (st .first) → mg ≡ termsMeasure table (st .second) → mc ≡ clauseMeasure table (st .claim) → By (record { rule = v; a = a; i = i; b = b; j = j; k = k; first = item first mf; second = item second mg; claim = item claim mc }) ≡ lineOf table s (form (by st))
+unfolding lineOf stepOf fromFirst fromSecond fromClause
+step-path table s st ev ea ei eb ej ek n₁ n₂ n₃ p₁ q₁ p₂ q₂ p₃ q₃ ef eg ec =
     let c = p₃ ∙ ap (putClause (st .claim)) q₃ in
     let b = p₂ ∙ ap (putLet (st .second)) (q₂ ∙ ap (word " ") c) in
     let a = p₁ ∙ ap (putLet (st .first)) (q₁ ∙ ap (word " ") b) in
     let p = place s n₁ a in
     let q = place s n₂ b in
     let r = place s n₃ c in
-    let m = em ∙ ap₂ joined ec (ap₂ joined ef eg) in
-    λ t. record { form = By; rule = ev t; a = ea t; i = ei t; b = eb t; j = ej t; k = ek t; first = p t; second = q t; clause = r t; width = ec t .width; firsts = ef t .count; seconds = eg t .count; measure = m t }
+    λ t. By (record { rule = ev t; a = ea t; i = ei t; b = eb t; j = ej t; k = ek t; first = item (p t) (ef t); second = item (q t) (eg t); claim = item (r t) (ec t) })
 
 -- A number after one space, and then what follows.
 onward-number : {C : Type 0} (s : List ℕ) (at : ℕ) {e' : ℕ} {R : C → Type 0} {p : Parsed C} {n : NumberAt} (f : ℕ → Reader C) → n ≡ numberAt s (readSpaced (drop at s)) → p ≡ andThen (strip (bytes " ") (drop at s)) (λ _ rest. andThen (readNumber rest) f) → (n .end ≡ length s + 1 → e' ≡ length s + 1) → ((v : ℕ) → n .value ≡ v → p ≡ f v (drop (n .end) s) → Track s R p e') → Track s R p e'
@@ -87,23 +91,28 @@ unfolding readSpaced
 onward-number s at f h w l k = onward s at f spaced-stops (number-end h) (w ∙ sym (after-after (strip (bytes " ") (drop at s)) (λ _. readNumber) f)) l (λ v g _ _ w. k v (number-value s h g) w)
 
 module _ (table s : List ℕ) (at : ℕ) where
-  pub sym-track : {k : NumberAt} {e : ℕ} → k ≡ numberAt s (readNumber (drop at s)) → e ≡ endOf s (strip (bytes ")") (drop (k .end) s)) → Track s (λ x. e ≡ length s → shortLine Sym (k .value) 0 0 empty ≡ lineOf table s (form x)) (readSym (drop at s)) e
+  pub sym-track : {k : NumberAt} {e : ℕ} → k ≡ numberAt s (readNumber (drop at s)) → e ≡ endOf s (strip (bytes ")") (drop (k .end) s)) → Track s (λ x. e ≡ length s → Sym (k .value) ≡ lineOf table s (form x)) (readSym (drop at s)) e
   unfolding readSym lineOf
   sym-track {k} h i =
       onward s at _ number-stops (number-end h) refl (lose s (word-stops 41 []) i)
       λ v g _ _ w. onward s (k .end) _ (word-stops 41 []) i w (λ l. l)
-      λ _ _ _ l w. found (syntax.sym v) w l (λ _. ap (λ n. shortLine Sym n 0 0 empty) (number-value s h g))
+      λ _ _ _ l w. found (syntax.sym v) w l (λ _. ap Sym (number-value s h g))
 
-  pub input-track : (d : ℕ) {c : Summary} {e : ℕ} → c ≡ summary (clauseMeasure table) s (readClause d (drop at s)) → e ≡ endOf s (strip (bytes ")") (drop (c .end) s)) → Track s (λ x. e ≡ length s → shortLine Input 0 at (c .measure .width) (c .measure) ≡ lineOf table s (form x)) (readInput d (drop at s)) e
-  unfolding readInput lineOf fromClause clauseMeasure
+  pub input-track : (d : ℕ) {c : Summary} {e : ℕ} → c ≡ summary (clauseMeasure table) s (readClause d (drop at s)) → e ≡ endOf s (strip (bytes ")") (drop (c .end) s)) → Track s (λ x. e ≡ length s → Input (item at (c .measure)) ≡ lineOf table s (form x)) (readInput d (drop at s)) e
+  unfolding readInput lineOf fromClause
   input-track d {c} {e} h i =
       onward s at _ (clause-stops d) (ending h) refl (lose s (word-stops 41 []) i)
       λ c₁ g m n w. onward s (c .end) _ (word-stops 41 []) i w (λ l. l)
       λ _ g₁ _ l w. found (input c₁) w l (λ q. rw (measuring (clauseMeasure table) s h g, ← place s {at = at} (omega arith) (given (clause-sound d .at (drop at s)) g .0 ∙ ap (putClause c₁) (stripped s (bytes ")") (c .end) e g₁ ∙ ap (λ r. 41 ∷ r) (past s e (omega arith))))))
 
-  pub step-track : (d : ℕ) {r : RuleAt} {a i b j k : NumberAt} {first second claim e : ℕ} {f g c : Summary} {m : Measure} → r ≡ ruleAt s (readRule (drop at s)) → a ≡ numberAt s (readSpaced (drop (r .end) s)) → i ≡ numberAt s (readSpaced (drop (a .end) s)) → b ≡ numberAt s (readSpaced (drop (i .end) s)) → j ≡ numberAt s (readSpaced (drop (b .end) s)) → k ≡ numberAt s (readSpaced (drop (j .end) s)) → first ≡ endOf s (strip (bytes " ") (drop (k .end) s)) → f ≡ summary (termsMeasure table) s (readLet d (drop first s)) → second ≡ endOf s (strip (bytes " ") (drop (f .end) s)) → g ≡ summary (termsMeasure table) s (readLet d (drop second s)) → claim ≡ endOf s (strip (bytes " ") (drop (g .end) s)) → c ≡ summary (clauseMeasure table) s (readClause d (drop claim s)) → e ≡ endOf s (strip (bytes ")") (drop (c .end) s)) → m ≡ joined (c .measure) (joined (f .measure) (g .measure)) → Track s (λ x. e ≡ length s → record { form = By; rule = r .rule; a = a .value; i = i .value; b = b .value; j = j .value; k = k .value; first = first; second = second; clause = claim; width = c .measure .width; firsts = f .measure .count; seconds = g .measure .count; measure = m } ≡ lineOf table s (form x)) (readStep d (drop at s)) e
+  -- A step whose rule, numbers, lists and claim were read so, up to the place e.
+  abbrev pub StepTrack : ℕ → RuleAt → NumberAt → NumberAt → NumberAt → NumberAt → NumberAt → ℕ → Summary → ℕ → Summary → ℕ → Summary → ℕ → Type 0
+  StepTrack d r a i b j k first f second g claim c e =
+      Track s (λ x. e ≡ length s → By (record { rule = r .rule; a = a .value; i = i .value; b = b .value; j = j .value; k = k .value; first = item first (f .measure); second = item second (g .measure); claim = item claim (c .measure) }) ≡ lineOf table s (form x)) (readStep d (drop at s)) e
+
+  pub step-track : (d : ℕ) {r : RuleAt} {a i b j k : NumberAt} {first second claim e : ℕ} {f g c : Summary} → r ≡ ruleAt s (readRule (drop at s)) → a ≡ numberAt s (readSpaced (drop (r .end) s)) → i ≡ numberAt s (readSpaced (drop (a .end) s)) → b ≡ numberAt s (readSpaced (drop (i .end) s)) → j ≡ numberAt s (readSpaced (drop (b .end) s)) → k ≡ numberAt s (readSpaced (drop (j .end) s)) → first ≡ endOf s (strip (bytes " ") (drop (k .end) s)) → f ≡ summary (termsMeasure table) s (readLet d (drop first s)) → second ≡ endOf s (strip (bytes " ") (drop (f .end) s)) → g ≡ summary (termsMeasure table) s (readLet d (drop second s)) → claim ≡ endOf s (strip (bytes " ") (drop (g .end) s)) → c ≡ summary (clauseMeasure table) s (readClause d (drop claim s)) → e ≡ endOf s (strip (bytes ")") (drop (c .end) s)) → StepTrack d r a i b j k first f second g claim c e
   unfolding readStep
-  step-track d {r} {a} {i} {b} {j} {k} {first} {second} {claim} {e} {f} {g} {c} {m} hr ha hi hb hj hk h₁ hf h₂ hg h₃ hc h₄ hm =
+  step-track d {r} {a} {i} {b} {j} {k} {first} {second} {claim} {e} {f} {g} {c} hr ha hi hb hj hk h₁ hf h₂ hg h₃ hc h₄ =
       let hr' : r .end ≡ endOf s (readRule (drop at s)) = ap (λ (r : RuleAt). r .end) hr in
       let l₁₂ = lose s (word-stops 41 []) h₄ in
       let l₁₁ = losing s (clause-stops d) (ending hc) l₁₂ in
@@ -134,7 +143,7 @@ module _ (table s : List ℕ) (at : ℕ) where
       (given (let-sound d .at (drop first s)) gf .0) (stripped s (bytes " ") (f .end) second g₂)
       (given (let-sound d .at (drop second s)) gg .0) (stripped s (bytes " ") (g .end) claim g₃)
       (given (clause-sound d .at (drop claim s)) gc .0) (stripped s (bytes ")") (c .end) e g₄ ∙ ap (λ r. 41 ∷ r) (past s e (omega arith)))
-      (measuring (termsMeasure table) s hf gf) (measuring (termsMeasure table) s hg gg) (measuring (clauseMeasure table) s hc gc) hm)
+      (measuring (termsMeasure table) s hf gf) (measuring (termsMeasure table) s hg gg) (measuring (clauseMeasure table) s hc gc))
 
 step-needs : (d : ℕ) → readStep d [] ≡ bad
 unfolding readStep readRule oneOf strip
@@ -167,20 +176,22 @@ from-place p rest h =
 step-front : (st : Step) → Plain (word "(by " ∘ word (ruleWord (st .rule)) ∘ word " " ∘ putNumber (st .a) ∘ word " " ∘ putNumber (st .i) ∘ word " " ∘ putNumber (st .b) ∘ word " " ∘ putNumber (st .j) ∘ word " " ∘ putNumber (st .k) ∘ word " ")
 step-front st = plain "(by " tt ⨾ rule-plain (st .rule) ⨾ plain " " tt ⨾ number-plain (st .a) ⨾ plain " " tt ⨾ number-plain (st .i) ⨾ plain " " tt ⨾ number-plain (st .b) ⨾ plain " " tt ⨾ number-plain (st .j) ⨾ plain " " tt ⨾ number-plain (st .k) ⨾ plain " " tt
 
-module _ (d : ℕ) (table s : List ℕ) where
-  pub input-place : {c : Clause} → readLine d s ≡ form (input c) → drop (lineOf table s (readLine d s) .clause) s ≡ fromClause c
-  unfolding lineOf writeLine putLine fromClause
-  input-place {c} h = rw h (from-place (plain "(in " tt) (fromClause c) (line-sound d s (input c) h .0))
+module _ (d : ℕ) (s : List ℕ) where
+  pub input-place : {c : Clause} → readLine d s ≡ form (input c) → drop (placeOf s (fromClause c)) s ≡ fromClause c
+  unfolding writeLine putLine fromClause
+  input-place {c} h = from-place (plain "(in " tt) (fromClause c) (line-sound d s (input c) h .0)
 
   module _ {st : Step} (h : readLine d s ≡ form (by st)) where
-    pub first-place : drop (lineOf table s (readLine d s) .first) s ≡ fromFirst st
-    unfolding lineOf writeLine putLine putStep fromFirst fromSecond fromClause
-    first-place = rw h (from-place (step-front st) (fromFirst st) (line-sound d s (by st) h .0))
+    pub first-place : drop (placeOf s (fromFirst st)) s ≡ fromFirst st
+    unfolding writeLine putLine putStep fromFirst fromSecond fromClause
+    first-place = from-place (step-front st) (fromFirst st) (line-sound d s (by st) h .0)
 
-    pub second-place : drop (lineOf table s (readLine d s) .second) s ≡ fromSecond st
-    unfolding lineOf writeLine putLine putStep fromFirst fromSecond fromClause
-    second-place = rw h (from-place (step-front st ⨾ let-plain (st .first) ⨾ plain " " tt) (fromSecond st) (line-sound d s (by st) h .0))
+    pub second-place : drop (placeOf s (fromSecond st)) s ≡ fromSecond st
+    unfolding writeLine putLine putStep fromFirst fromSecond fromClause
+    second-place = from-place (step-front st ⨾ let-plain (st .first) ⨾ plain " " tt) (fromSecond st) (line-sound d s (by st) h .0)
 
-    pub claim-place : drop (lineOf table s (readLine d s) .clause) s ≡ fromClause (st .claim)
-    unfolding lineOf writeLine putLine putStep fromFirst fromSecond fromClause
-    claim-place = rw h (from-place (step-front st ⨾ let-plain (st .first) ⨾ plain " " tt ⨾ let-plain (st .second) ⨾ plain " " tt) (fromClause (st .claim)) (line-sound d s (by st) h .0))
+    pub claim-place : drop (placeOf s (fromClause (st .claim))) s ≡ fromClause (st .claim)
+    unfolding writeLine putLine putStep fromFirst fromSecond fromClause
+    claim-place =
+        from-place (step-front st ⨾ let-plain (st .first) ⨾ plain " " tt ⨾ let-plain (st .second) ⨾ plain " " tt) (fromClause (st .claim))
+        (line-sound d s (by st) h .0)

@@ -1,27 +1,16 @@
 -- Nothing here is to be believed: it mirrors code on bytes; `line-seen` (crates/reader/proofs/Held) says what it gives of a line.
--- A line as the reader gives it: its form, its numbers, the places of its parts, and a measure of all of it.
+-- A line as the reader gives it: what it is, its numbers, and of its clause and lists where they begin and what they measure.
 use Prim.Native.Nat.{ℕ, _-_}
 use mathlib.Core.List.{List, []}
 use lib.ListN.{length}
-use Rattle.logic.specs.declared.Rule.the-variants.{Refl}
 use Rattle.logic.specs.Syntax.{Clause, Step, sym, input, by}
-use Rattle.logic.specs.Terms.{count}
-use Rattle.logic.specs.Each.{width}
-use Rattle.reader.specs.declared.measures.Measure.{Measure}
-use Rattle.reader.specs.declared.forms.Form.{Form}
-use Rattle.reader.specs.declared.forms.Form.the-variants.{NoForm, Sym, Input, By}
+use Rattle.reader.specs.declared.forms.StepAt.{StepAt}
 use Rattle.reader.specs.declared.forms.LineAt.{LineAt}
+use Rattle.reader.specs.declared.forms.LineAt.the-variants.{NoForm, Sym, Input, By}
 use Rattle.text.specs.Write.{word, putClause, putLet}
 use Rattle.text.specs.Form.{Reading, form, noForm}
 use Rattle.text.specs.Read.{Reader, _>>_, skip, readNumber}
-use Rattle.reader.specs.Summary.{empty, joined, termsMeasure, clauseMeasure}
-
--- The forms by number.
-unfoldable pub formNumber : Form → ℕ
-formNumber NoForm = 0
-formNumber Sym = 1
-formNumber Input = 2
-formNumber By = 3
+use Rattle.reader.specs.Summary.{termsMeasure, clauseMeasure}
 
 -- A number after one space.
 unfoldable pub readSpaced : Reader ℕ
@@ -42,45 +31,22 @@ fromFirst st = putLet (st .first) (word " " (fromSecond st))
 abbrev pub placeOf : List ℕ → List ℕ → ℕ
 placeOf s rest = length s - length rest
 
-abbrev pub shortLine : Form → ℕ → ℕ → ℕ → Measure → LineAt
-shortLine f k clause w m = record {
-  form = f;
-  rule = Refl;
-  a = 0;
-  i = 0;
-  b = 0;
-  j = 0;
-  k = k;
-  first = 0;
-  second = 0;
-  clause = clause;
-  width = w;
-  firsts = 0;
-  seconds = 0;
-  measure = m;
-}
-
--- The measure of a step's claim and of its lists.
-unfoldable pub stepMeasure : List ℕ → Step → Measure
-stepMeasure table st = joined (clauseMeasure table (st .claim)) (joined (termsMeasure table (st .first)) (termsMeasure table (st .second)))
-
-unfoldable pub lineOf : List ℕ → List ℕ → Reading → LineAt
-lineOf table s noForm = shortLine NoForm 0 0 0 empty
-lineOf table s (form (sym k)) = shortLine Sym k 0 0 empty
-lineOf table s (form (input c)) = shortLine Input 0 (placeOf s (fromClause c)) (width c) (clauseMeasure table c)
-lineOf table s (form (by st)) = record {
-  form = By;
+-- A step as it was read: its rule and numbers, and of its lists and its claim where they begin and what they measure.
+unfoldable pub stepOf : List ℕ → List ℕ → Step → StepAt
+stepOf table s st = record {
   rule = st .rule;
   a = st .a;
   i = st .i;
   b = st .b;
   j = st .j;
   k = st .k;
-  first = placeOf s (fromFirst st);
-  second = placeOf s (fromSecond st);
-  clause = placeOf s (fromClause (st .claim));
-  width = width (st .claim);
-  firsts = count (st .first);
-  seconds = count (st .second);
-  measure = stepMeasure table st;
+  first = record { start = placeOf s (fromFirst st); measure = termsMeasure table (st .first) };
+  second = record { start = placeOf s (fromSecond st); measure = termsMeasure table (st .second) };
+  claim = record { start = placeOf s (fromClause (st .claim)); measure = clauseMeasure table (st .claim) };
 }
+
+unfoldable pub lineOf : List ℕ → List ℕ → Reading → LineAt
+lineOf table s noForm = NoForm
+lineOf table s (form (sym k)) = Sym k
+lineOf table s (form (input c)) = Input (record { start = placeOf s (fromClause c); measure = clauseMeasure table c })
+lineOf table s (form (by st)) = By (stepOf table s st)

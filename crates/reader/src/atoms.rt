@@ -1,9 +1,9 @@
 // Atoms and literals.
 use crate::measures::Measure;
+use crate::measures::join;
+use crate::measures::none;
+use crate::measures::recount;
 use crate::summaries::Summary;
-use crate::summaries::join;
-use crate::summaries::none;
-use crate::summaries::recount;
 use crate::summaries::settle;
 use crate::terms::term;
 use crate::terms::terms;

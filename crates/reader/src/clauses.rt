@@ -1,9 +1,9 @@
 // Clauses, and lists of terms after the word let.
 use crate::atoms::literal;
+use crate::measures::join;
+use crate::measures::none;
+use crate::measures::recount;
 use crate::summaries::Summary;
-use crate::summaries::join;
-use crate::summaries::none;
-use crate::summaries::recount;
 use crate::summaries::settle;
 use crate::terms::terms;
 use scan::words::word;

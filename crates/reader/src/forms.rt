@@ -1,9 +1,7 @@
-// One line: what form it is, its numbers, the places of its parts, and a measure of all of it.
+// One line: what it is, its numbers, and of its clause and its lists where they begin and what they measure.
 use crate::clauses::clause;
 use crate::clauses::list;
 use crate::measures::Measure;
-use crate::summaries::join;
-use crate::summaries::none;
 use logic::Rule;
 use scan::numbers::NumberAt;
 use scan::numbers::number;
@@ -13,72 +11,33 @@ ghost use mathlib.Core.Path.{_≡_};
 ghost use lib.ListN.{drop};
 ghost use Rattle.text.specs.Read.{readSym, readInput, readStep, whole, readLine};
 ghost use Rattle.scan.specs.Numbers.{numberAt};
-ghost use Rattle.reader.specs.LineAt.{formNumber, readSpaced, shortLine, lineOf};
+ghost use Rattle.reader.specs.LineAt.{readSpaced, lineOf};
 
-pub enum Form {
-    NoForm,
-    Sym,
-    Input,
-    By,
+// A clause or a list of a line: where it begins, and its measure.
+pub struct ItemAt {
+    pub start: usize,
+    pub measure: Measure,
 }
 
-// The forms by number.
-pub const SYM: usize = 1;
-
-pub const INPUT: usize = 2;
-
-pub const STEP: usize = 3;
-
-pub fn form_number(f: Form) -> usize
-    ensures { λ r. ⌜ r ≡ formNumber f ⌝ }
-{
-    match f {
-        Form::NoForm => 0,
-        Form::Sym => SYM,
-        Form::Input => INPUT,
-        Form::By => STEP,
-    }
-}
-
-// The places are those of the first list, the second list and the clause; the width is the clause's highest variable plus 1. The measure
-// counts the clause's literals.
-pub struct LineAt {
-    pub form: Form,
+// A step: its rule, its numbers, its two lists and its claim.
+pub struct StepAt {
     pub rule: Rule,
     pub a: usize,
     pub i: usize,
     pub b: usize,
     pub j: usize,
     pub k: usize,
-    pub first: usize,
-    pub second: usize,
-    pub clause: usize,
-    pub width: usize,
-    pub firsts: usize,
-    pub seconds: usize,
-    pub measure: Measure,
+    pub first: ItemAt,
+    pub second: ItemAt,
+    pub claim: ItemAt,
 }
 
-// A line of which only its form, k, the place of a clause, its width and its measure are to be said.
-fn short(form: Form, k: usize, clause: usize, width: usize, m: Measure) -> LineAt
-    ensures { λ r. ⌜ r ≡ shortLine form k clause width m ⌝ }
-{
-    LineAt {
-        form,
-        rule: Rule::Refl,
-        a: 0,
-        i: 0,
-        b: 0,
-        j: 0,
-        k,
-        first: 0,
-        second: 0,
-        clause,
-        width,
-        firsts: 0,
-        seconds: 0,
-        measure: m,
-    }
+// What a line is: no form; K of a sym line; the clause of an in line; a step.
+pub enum LineAt {
+    NoForm,
+    Sym(usize),
+    Input(ItemAt),
+    By(StepAt),
 }
 
 // K) after the word sym.
@@ -88,9 +47,9 @@ fn sym_line(s: &[u8], at: usize, table: &[u8]) -> LineAt
     let k = number(s, at);
     let e = word(s, k.end, b")");
     if e == s.len() {
-        short(Form::Sym, k.value, 0, 0, none())
+        LineAt::Sym(k.value)
     } else {
-        short(Form::NoForm, 0, 0, 0, none())
+        LineAt::NoForm
     }
 }
 
@@ -102,9 +61,12 @@ fn input_line(s: &[u8], at: usize, depth: usize, table: &[u8]) -> LineAt
     let m = c.measure;
     let e = word(s, c.end, b")");
     if e == s.len() {
-        short(Form::Input, 0, at, m.width, m)
+        LineAt::Input(ItemAt {
+            start: at,
+            measure: m,
+        })
     } else {
-        short(Form::NoForm, 0, 0, 0, none())
+        LineAt::NoForm
     }
 }
 
@@ -133,29 +95,32 @@ fn step_line(s: &[u8], at: usize, depth: usize, table: &[u8]) -> LineAt
     let c = clause(s, claim, depth, table);
     let e = word(s, c.end, b")");
     if e != s.len() {
-        return short(Form::NoForm, 0, 0, 0, none());
+        return LineAt::NoForm;
     }
     let firsts = f.measure;
     let seconds = g.measure;
     let claimed = c.measure;
-    let measure = join(claimed, join(firsts, seconds));
     let rule = r.rule;
-    LineAt {
-        form: Form::By,
+    LineAt::By(StepAt {
         rule,
         a: a.value,
         i: i.value,
         b: b.value,
         j: j.value,
         k: k.value,
-        first,
-        second,
-        clause: claim,
-        width: claimed.width,
-        firsts: firsts.count,
-        seconds: seconds.count,
-        measure,
-    }
+        first: ItemAt {
+            start: first,
+            measure: firsts,
+        },
+        second: ItemAt {
+            start: second,
+            measure: seconds,
+        },
+        claim: ItemAt {
+            start: claim,
+            measure: claimed,
+        },
+    })
 }
 
 // A line without its line end, over the table of argument counts, its terms at most `depth` deep.

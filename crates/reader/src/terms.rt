@@ -1,10 +1,10 @@
 // Terms, and lists of terms up to a closing bracket.
 use crate::measures::Measure;
+use crate::measures::both;
+use crate::measures::join;
+use crate::measures::none;
+use crate::measures::recount;
 use crate::summaries::Summary;
-use crate::summaries::both;
-use crate::summaries::join;
-use crate::summaries::none;
-use crate::summaries::recount;
 use crate::summaries::settle;
 use scan::numbers::number;
 use scan::words::HEAD;

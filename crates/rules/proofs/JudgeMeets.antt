@@ -22,12 +22,13 @@ use Rattle.logic.specs.StepChecks.{parentClause, parentA, parentB, below, paren
 use Rattle.logic.specs.Judge.{withNew, conclude, conclusion, judgeConclusion, judge}
 use Rattle.logic.proofs.Both.{left, right}
 use Rattle.logic.proofs.Over.{Over, fill-over}
-use Rattle.reader.specs.declared.forms.LineAt.{LineAt}
+use Rattle.reader.specs.declared.forms.StepAt.{StepAt}
 use Rattle.text.specs.Words.{bytes}
 use Rattle.text.specs.Write.{word, putLet, putTerms}
 use Rattle.text.specs.Form.{formedNumber, numbered, numbereds, formedTerms, formedStep, formedLine, formedClause, depthOfs, form, maxNumber}
 use Rattle.text.specs.Read.{readLine}
-use Rattle.reader.specs.LineAt.{fromFirst, fromSecond, fromClause, placeOf, lineOf}
+use Rattle.reader.specs.LineAt.{fromFirst, fromSecond, fromClause, placeOf, stepOf}
+use Rattle.reader.specs.Summary.{termsMeasure}
 use Rattle.text.proofs.Deep.{formedSymbol, each-numbered, entries-over, formed-over}
 use Rattle.text.proofs.Heads.{strip-same}
 use Rattle.reader.proofs.LineParts.{first-place, second-place, claim-place}
@@ -165,18 +166,17 @@ module _ (depth : ℕ) where
 
     -- Where they stand in the line.
     first-images : Images line (listAt line (placeOf line (fromFirst s))) (entries (s .first)) (count (s .first))
-    unfolding lineOf fromFirst
+    unfolding fromFirst
     first-images =
-        list-images line (placeOf line (fromFirst s)) (s .first) (word " " (fromSecond s)) (record { within = omega arith; bytes-there = rw e at (first-place depth [] line e) }) short (list-numbered (s .first) (lists-formed .0))
+        list-images line (placeOf line (fromFirst s)) (s .first) (word " " (fromSecond s)) (record { within = omega arith; bytes-there = first-place depth line e }) short (list-numbered (s .first) (lists-formed .0))
 
     second-images : Images line (listAt line (placeOf line (fromSecond s))) (entries (s .second)) (count (s .second))
-    unfolding lineOf fromSecond
+    unfolding fromSecond
     second-images =
-        list-images line (placeOf line (fromSecond s)) (s .second) (word " " (fromClause (s .claim))) (record { within = omega arith; bytes-there = rw e at (second-place depth [] line e) }) short′ (list-numbered (s .second) (lists-formed .1))
+        list-images line (placeOf line (fromSecond s)) (s .second) (word " " (fromClause (s .claim))) (record { within = omega arith; bytes-there = second-place depth line e }) short′ (list-numbered (s .second) (lists-formed .1))
 
     claim-at : ClaimAt line (placeOf line (fromClause (s .claim))) (s .claim)
-    unfolding lineOf
-    claim-at = record { stands = record { within = omega arith; bytes-there = rw e at (claim-place depth [] line e) }; over = formed-over depth (s .claim) (lists-formed .2) }
+    claim-at = record { stands = record { within = omega arith; bytes-there = claim-place depth line e }; over = formed-over depth (s .claim) (lists-formed .2) }
 
     module _ (cs : List Clause) (p q : List ℕ) (z z′ : Size) (f : s .a < length cs → HoldsClause depth p z (getD cs (s .a) [])) (g : s .b < length cs → HoldsClause depth q z′ (getD cs (s .b) [])) (b : T (parentsBelow cs s)) where
       below-a : T (below (length cs) (uses (s .rule) .a) (s .a))
@@ -234,7 +234,7 @@ module _ (depth : ℕ) where
           with-b x n first second true h = ap (λ m. concludeAt depth (s .rule) (s .k) p n (s .i) line first q m (s .j) second (placeOf line (fromClause (s .claim)))) (literals-of cs (s .b) g true h)
 
   -- V22, of the call: the answer is that of the definitions.
-  pub judge-meets : (own : ℕ) (p : List ℕ) (z : Size) (q : List ℕ) (z′ : Size) (line : List ℕ) (l : LineAt) → Judges depth own p z q z′ line l (stepAt depth own p z q z′ line l)
-  unfolding Judges stepAt lineOf judge parentNumbers parentsBelow
+  pub judge-meets : (own : ℕ) (p : List ℕ) (z : Size) (q : List ℕ) (z′ : Size) (line : List ℕ) (l : StepAt) → Judges depth own p z q z′ line l (stepAt depth own p z q z′ line l)
+  unfolding Judges stepAt stepOf termsMeasure judge parentNumbers parentsBelow
   judge-meets own p z q z′ line l cs s table o f g r e short short′ =
       rw (r, o) (settled-same (parentsBelow cs s) (numbers-same line s e short short′ cs p q z z′ f g) (rest-same line s e short short′ cs p q z z′ f g))

@@ -17,8 +17,8 @@ use Rattle.logic.specs.Judge.{judge}
 use Rattle.text.specs.Write.{putClause}
 use Rattle.text.specs.Form.{formedClause, form}
 use Rattle.text.specs.Read.{readLine}
-use Rattle.reader.specs.declared.forms.LineAt.{LineAt}
-use Rattle.reader.specs.LineAt.{lineOf}
+use Rattle.reader.specs.declared.forms.StepAt.{StepAt}
+use Rattle.reader.specs.LineAt.{stepOf}
 use Rattle.clauses.specs.Shapes.{placeAt, listAt}
 use Rattle.rules.specs.declared.steps.Size.{Size}
 use Rattle.rule_numbers.specs.Uses.{parentNumbers, unusedNumbers}
@@ -58,16 +58,16 @@ fillingPlaces width places = cond (eqb width 0) [] places
 
 -- A step, as it was read, over the parts of the text that begin with its parents; `own` is its own number. An unused parent has no
 -- literals. R5: "At I" is a position in A, "at J" one in B; for fac both are in A: where B is unused, A stands for it.
-unfoldable pub stepAt : ℕ → ℕ → List ℕ → Size → List ℕ → Size → List ℕ → LineAt → Judged
-stepAt depth own p a q b line l =
-    let first = fillingPlaces (cond (uses (l .rule) .a) (a .width) 1) (listAt line (l .first)) in
-    let second = fillingPlaces (b .width) (listAt line (l .second)) in
-    let n = cond (uses (l .rule) .a) (a .literals) 0 in
-    let two = concludeAt depth (l .rule) (l .k) p n (l .i) line first q (b .literals) (l .j) second (l .clause) in
-    let one = concludeAt depth (l .rule) (l .k) p n (l .i) line first p 0 (l .j) first (l .clause) in
-    let fit = listsAt (uses (l .rule) .a) (uses (l .rule) .b) (l .firsts) (l .seconds) (a .width) (b .width) in
-    let numbers = unusedNumbers (l .rule) (l .a) (l .i) (l .b) (l .j) (l .k) && fit in
-    settledAs (parentNumbers (l .rule) own (l .a) (l .b)) numbers (cond (uses (l .rule) .b) two one)
+unfoldable pub stepAt : ℕ → ℕ → List ℕ → Size → List ℕ → Size → List ℕ → StepAt → Judged
+stepAt depth own p a q b line s =
+    let first = fillingPlaces (cond (uses (s .rule) .a) (a .width) 1) (listAt line (s .first .start)) in
+    let second = fillingPlaces (b .width) (listAt line (s .second .start)) in
+    let n = cond (uses (s .rule) .a) (a .literals) 0 in
+    let two = concludeAt depth (s .rule) (s .k) p n (s .i) line first q (b .literals) (s .j) second (s .claim .start) in
+    let one = concludeAt depth (s .rule) (s .k) p n (s .i) line first p 0 (s .j) first (s .claim .start) in
+    let fit = listsAt (uses (s .rule) .a) (uses (s .rule) .b) (s .first .measure .count) (s .second .measure .count) (a .width) (b .width) in
+    let numbers = unusedNumbers (s .rule) (s .a) (s .i) (s .b) (s .j) (s .k) && fit in
+    settledAs (parentNumbers (s .rule) own (s .a) (s .b)) numbers (cond (uses (s .rule) .b) two one)
 
 -- A part of a text that begins with a clause, formed, its terms at most so deep; its number of literals and its width are these.
 pub record HoldsClause (depth : ℕ) (p : List ℕ) (s : Size) (c : Clause) : Type 0 where
@@ -79,9 +79,9 @@ pub record HoldsClause (depth : ℕ) (p : List ℕ) (s : Size) (c : Clause) : Ty
 
 -- V22, "A step passes checks 7 to 11 exactly when the rules give its claim from its parents by its numbers under its two lists": where the
 -- line is the step s, its lists within the limit, and the parts hold the clauses that it names, if there are such, the answer is `judge`.
-unfoldable pub Judges : ℕ → ℕ → List ℕ → Size → List ℕ → Size → List ℕ → LineAt → Judged → Type 0
-Judges depth own p a q b line l r =
+unfoldable pub Judges : ℕ → ℕ → List ℕ → Size → List ℕ → Size → List ℕ → StepAt → Judged → Type 0
+Judges depth own p a q b line read r =
     (cs : List Clause) (s : Step) (table : List ℕ) → own ≡ length cs →
     (s .a < length cs → HoldsClause depth p a (getD cs (s .a) [])) → (s .b < length cs → HoldsClause depth q b (getD cs (s .b) [])) →
-    l ≡ lineOf table line (form (by s)) → readLine depth line ≡ form (by s) →
+    read ≡ stepOf table line s → readLine depth line ≡ form (by s) →
     count (s .first) ≤ 32 → count (s .second) ≤ 32 → r ≡ judge cs s

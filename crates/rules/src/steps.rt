@@ -8,7 +8,7 @@ use clauses::shapes::positive;
 use clauses::shapes::within;
 use logic::Judged;
 use logic::Rule;
-use reader::forms::LineAt;
+use reader::forms::StepAt;
 use rule_numbers::parents_below;
 use rule_numbers::unused_zero;
 use rule_numbers::used;
@@ -77,7 +77,7 @@ fn judged(shaped: bool, agreed: bool, claims: bool) -> Judged
 // Checks 9 to 11 of a step, over its parents with their numbers of literals and its lists.
 fn conclude(
     depth: u8,
-    l: LineAt,
+    step: StepAt,
     a: &[u8],
     first: &[usize],
     b: &[u8],
@@ -86,21 +86,22 @@ fn conclude(
     literals: Literals,
 ) -> Judged
     ensures { λ r.
-        ⌜ r ≡ concludeAt depth (l .rule) (l .k) (now (a .entry)) (literals .a) (l .i) (now (line .entry))
-        (now (first .entry)) (now (b .entry)) (literals .b) (l .j) (now (second .entry)) (l .clause) ⌝ }
+        ⌜ r ≡ concludeAt depth (step .rule) (step .k) (now (a .entry)) (literals .a) (step .i) (now (line .entry))
+        (now (first .entry)) (now (b .entry)) (literals .b) (step .j) (now (second .entry)) (step .claim .start) ⌝ }
 {
-    let rule = l.rule;
-    let x = literal(a, l.i);
-    let y = literal(b, l.j);
-    let f = find(table_row(rule), l.k, a, x, b, y);
+    let rule = step.rule;
+    let claim = step.claim;
+    let x = literal(a, step.i);
+    let y = literal(b, step.j);
+    let f = find(table_row(rule), step.k, a, x, b, y);
     let kept = Kept {
         depth,
         a: literals.a,
-        i: dropped(used(rule, 2), a, x, l.i, l.j),
+        i: dropped(used(rule, 2), a, x, step.i, step.j),
         b: literals.b,
-        j: l.j,
+        j: step.j,
     };
-    let rest = clause_part(line, l.clause);
+    let rest = clause_part(line, claim.start);
     let claims = claimed(f, kept, a, first, b, second, line, rest);
     let agreed = agrees(depth, f, a, first, b, second, line);
     judged(f.shaped, agreed, claims)
@@ -147,33 +148,44 @@ pub fn judge(
     b: &[u8],
     of_b: Size,
     line: &[u8],
-    l: LineAt,
+    step: StepAt,
 ) -> Judged
-    ensures { λ r. ⌜ r ≡ stepAt depth own (now (a .entry)) «of_a» (now (b .entry)) «of_b» (now (line .entry)) l ⌝ }
-    ensures { λ r. ⌜ Judges depth own (now (a .entry)) «of_a» (now (b .entry)) «of_b» (now (line .entry)) l r ⌝ }
+    ensures { λ r. ⌜ r ≡ stepAt depth own (now (a .entry)) «of_a» (now (b .entry)) «of_b» (now (line .entry)) step ⌝ }
+    ensures { λ r. ⌜ Judges depth own (now (a .entry)) «of_a» (now (b .entry)) «of_b» (now (line .entry)) step r ⌝ }
     ensures { λ _. ⌜ (now (a .exit) ≡ now (a .entry)) × (now (b .exit) ≡ now (b .entry)) × (now (line .exit) ≡ now (line .entry)) ⌝ }
 {
-    let rule = l.rule;
+    let rule = step.rule;
+    let first = step.first;
+    let second = step.second;
+    let ones = first.measure;
+    let twos = second.measure;
     let uses_a = used(rule, 0);
     let uses_b = used(rule, 2);
-    let zero = unused_zero(rule, l.a, l.i, l.b, l.j, l.k);
-    let fit = lists_fit(uses_a, uses_b, l.firsts, l.seconds, of_a.width, of_b.width);
-    let below = parents_below(rule, own, l.a, l.b);
+    let zero = unused_zero(rule, step.a, step.i, step.b, step.j, step.k);
+    let fit = lists_fit(
+        uses_a,
+        uses_b,
+        ones.count,
+        twos.count,
+        of_a.width,
+        of_b.width,
+    );
+    let below = parents_below(rule, own, step.a, step.b);
     let n = choose(uses_a, of_a.literals, 0);
     let width = choose(uses_a, of_a.width, 1);
-    let firsts = places(width, line, l.first);
-    let first = filling(width, &firsts);
+    let firsts = places(width, line, first.start);
+    let a_list = filling(width, &firsts);
     if uses_b {
-        let seconds = places(of_b.width, line, l.second);
-        let second = filling(of_b.width, &seconds);
+        let seconds = places(of_b.width, line, second.start);
+        let b_list = filling(of_b.width, &seconds);
         let two = Literals {
             a: n,
             b: of_b.literals,
         };
-        let answer = conclude(depth, l, a, first, b, second, line, two);
+        let answer = conclude(depth, step, a, a_list, b, b_list, line, two);
         return settled(below, both(zero, fit), answer);
     }
     let one = Literals { a: n, b: 0 };
-    let answer = conclude(depth, l, a, first, a, first, line, one);
+    let answer = conclude(depth, step, a, a_list, a, a_list, line, one);
     settled(below, both(zero, fit), answer)
 }

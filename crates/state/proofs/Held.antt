@@ -15,6 +15,7 @@ use Rattle.logic.specs.Syntax as syntax
 use Rattle.logic.specs.Each.{any, declares, eachTerms, eachClause, width}
 use Rattle.logic.proofs.Both.{right}
 use Rattle.state.specs.declared.HeldState as code
+use Rattle.state.specs.declared.Added.{Added}
 use Rattle.text.specs.Write.{putClause}
 use Rattle.text.specs.Form.{Reading, form, noForm, formedNumber, formedTerms, formedClause, formedStep, formedLine}
 use Rattle.text.specs.Read.{readLine}
@@ -22,9 +23,9 @@ use Rattle.text.specs.Figures.{office, maxSymbols, maxParts}
 use Rattle.state.specs.State.{State, fresh, claimOf, clauses, advance, isEmpty, ordered, hasConstant, constantReady, clauseFits, listFits, withinLimits, symbolsDeclared, after}
 use Rattle.state.specs.Failure.{lineFailure, readFailure}
 use Rattle.reader.specs.Summary.{joined, termsMeasure, clauseMeasure}
-use Rattle.reader.specs.LineAt.{formNumber, fromClause, placeOf, stepMeasure, lineOf}
-use Rattle.state.specs.ReadLine.{freshState, heldTable, clauseFailure, failureIn, failureOf, seenAt, placed, byteOf, countedIn, addedBy, withSymbol, withClause, withAdded}
-use Rattle.state.specs.Represents.{Stands, Represents, Begins, Sees, LineStands, Adds}
+use Rattle.reader.specs.LineAt.{fromClause, placeOf, stepOf, lineOf}
+use Rattle.state.specs.ReadLine.{freshState, heldTable, clauseFailure, stepMeasure, stepFailure, failureOf, seenAt, placed, byteOf, counted, clauseAdded, addedBy, symbolHeld, clauseHeld, withAdded}
+use Rattle.state.specs.Represents.{Stands, Represents, Sized, Begins, Sees, LineStands, Adds}
 use Rattle.text.proofs.Plain.{clause-plain, in-front}
 use Rattle.text.proofs.Sound.{line-sound}
 use Rattle.reader.proofs.LineParts.{input-place, claim-place}
@@ -38,15 +39,11 @@ unfolding Begins freshState fresh heldTable clauses
 fresh-begins depth part = record {
   counts-room = refl;
   starts-room = refl;
-  literals-room = refl;
-  widths-room = refl;
   table = refl;
   symbols = refl;
   inputs = refl;
   count = refl;
   places = λ n h. absurd (omega arith);
-  literals = λ n h. absurd (omega arith);
-  widths = λ n h. absurd (omega arith);
 }
 
 -- Empty lists, by their lengths.
@@ -78,11 +75,11 @@ rotate false false c = refl
 module _ {depth : ℕ} {part : ℕ → List ℕ} {held : code.HeldState} {st : State} (R : Represents depth part held st) (bytes : List ℕ) where
   held-failure : (r : Reading) →
       failureOf (held .symbols) (held .clauses) (held .inputs) (hasConstant (st .symbols)) (lineOf (st .symbols) bytes r) ≡ readFailure st r
-  unfolding failureOf failureIn clauseFailure readFailure lineFailure lineOf ordered constantReady withinLimits symbolsDeclared clauses stepMeasure joined clauseMeasure termsMeasure
+  unfolding failureOf stepFailure stepMeasure clauseFailure readFailure lineFailure lineOf ordered constantReady withinLimits symbolsDeclared clauses stepOf joined clauseMeasure termsMeasure
   held-failure noForm = refl
   held-failure (form (syntax.sym k)) =
       rw (R .count, R .symbols, no-clauses (st .inputs) (st .steps), and-comm (ltb (length (st .symbols)) maxSymbols) (leb k maxParts))
-  held-failure (form (input c)) = rw (R .count, R .inputs, no-steps (st .inputs) (st .steps), input-limits (st .symbols) bytes c)
+  held-failure (form (input c)) = rw (R .count, R .inputs, no-steps (st .inputs) (st .steps), input-limits (st .symbols) c)
   held-failure (form (by s)) =
       rw (
         step-limits (st .symbols) bytes s,
@@ -110,28 +107,43 @@ module _ (cs : List Clause) (c : Clause) (xs : List ℕ) (x n : ℕ) (count : n 
       go (yes q) = rw (q, e) new-held
       go (no q) = rw e (old-held m (omega (arith, ap length e, length-append cs (c ∷ []))))
 
--- One clause more.
-clause-added : {depth : ℕ} {part : ℕ → List ℕ} {held : code.HeldState} {st st' : State} {c : Clause} {at literals wide inputs : ℕ} → Represents depth part held st →
-    held .clauses < office .lines → Stands depth part at c → literals ≡ length c → wide ≡ width c → st' .symbols ≡ st .symbols →
-    clauses st' ≡ clauses st ++ (c ∷ []) → inputs ≡ length (st' .inputs) → Represents depth part (withClause held at literals wide inputs) st'
-unfolding heldTable
-clause-added {depth} {part} {held} {st} {st'} {c} {at} {literals} {wide} {inputs} R full S el ew t e i = record {
-  counts-room = R .counts-room;
-  starts-room = length-set (held .starts) (held .clauses) at ∙ R .starts-room;
-  literals-room = length-set (held .literals) (held .clauses) literals ∙ R .literals-room;
-  widths-room = length-set (held .widths) (held .clauses) wide ∙ R .widths-room;
-  table = R .table ∙ sym t;
-  symbols = R .symbols ∙ ap length (sym t);
-  inputs = i;
-  count = rw (e, R .count, length-append) refl;
-  places = each (held .starts) at (R .starts-room) (λ m d. Stands depth part m d) S (R .places);
-  literals = each (held .literals) literals (R .literals-room) (λ m d. m ≡ length d) el (R .literals);
-  widths = each (held .widths) wide (R .widths-room) (λ m d. m ≡ width d) ew (R .widths);
+-- One number more, for one clause more.
+module _ (st st' : State) (c : Clause) (e : clauses st' ≡ clauses st ++ (c ∷ [])) {n : ℕ} (count : n ≡ length (clauses st)) (full : n < office .lines) where
+  one-more : (xs : List ℕ) (x : ℕ) → length xs ≡ office .lines → (Q : ℕ → Clause → Type 0) → Q x c → ((m : ℕ) → m < length (clauses st) → Q (getD xs m 0) (getD (clauses st) m [])) →
+      (m : ℕ) → m < length (clauses st') → Q (getD (set xs n x) m 0) (getD (clauses st') m [])
+  one-more xs x r Q new old = each-held (clauses st) c xs x n count (omega arith) Q new old (clauses st') e
+
+  -- Its number of literals and its width.
+  sized-more : {literals wide : ℕ} {ls ws : List ℕ} → literals ≡ length c → wide ≡ width c → Sized st ls ws → Sized st' (set ls n literals) (set ws n wide)
+  sized-more {literals} {wide} {ls} {ws} el ew S = record {
+    literals-room = length-set ls n literals ∙ S .literals-room;
+    widths-room = length-set ws n wide ∙ S .widths-room;
+    literals-of = one-more ls literals (S .literals-room) (λ m d. m ≡ length d) el (S .literals-of);
+    widths-of = one-more ws wide (S .widths-room) (λ m d. m ≡ width d) ew (S .widths-of);
+  }
+
+  -- Its place.
+  clause-added : {depth : ℕ} {part : ℕ → List ℕ} {held : code.HeldState} {at inputs : ℕ} → Represents depth part held st → n ≡ held .clauses →
+      Stands depth part at c → st' .symbols ≡ st .symbols → inputs ≡ length (st' .inputs) → Represents depth part (clauseHeld held at inputs) st'
+  unfolding heldTable clauseHeld
+  clause-added {depth} {part} {held} {at} {inputs} R o S t i = rw (lt-ltb (held .clauses) (office .lines) (omega (arith, o))) (record {
+    counts-room = R .counts-room;
+    starts-room = length-set (held .starts) (held .clauses) at ∙ R .starts-room;
+    table = R .table ∙ sym t;
+    symbols = R .symbols ∙ ap length (sym t);
+    inputs = i;
+    count = rw (e, R .count, length-append) refl;
+    places = rw (← o) (one-more (held .starts) at (R .starts-room) (λ m d. Stands depth part m d) S (R .places));
+  })
+
+-- No clause more: what is stored past the clauses is of none of them.
+sized-same : {st st' : State} {n : ℕ} (x y : ℕ) (ls ws : List ℕ) → clauses st' ≡ clauses st → n ≡ length (clauses st) → Sized st ls ws → Sized st' (set ls n x) (set ws n y)
+sized-same {n = n} x y ls ws e count S = record {
+  literals-room = length-set ls n x ∙ S .literals-room;
+  widths-room = length-set ws n y ∙ S .widths-room;
+  literals-of = λ m h. rw (e, getD-set-other ls n m x 0 (λ q. omega (arith, count, ap length e))) (S .literals-of m (omega (arith, ap length e)));
+  widths-of = λ m h. rw (e, getD-set-other ws n m y 0 (λ q. omega (arith, count, ap length e))) (S .widths-of m (omega (arith, ap length e)));
 }
-  where
-    each : (xs : List ℕ) (x : ℕ) → length xs ≡ office .lines → (Q : ℕ → Clause → Type 0) → Q x c → ((m : ℕ) → m < length (clauses st) → Q (getD xs m 0) (getD (clauses st) m [])) →
-        (m : ℕ) → m < length (clauses st') → Q (getD (set xs (held .clauses) x) m 0) (getD (clauses st') m [])
-    each xs x r Q new old = each-held (clauses st) c xs x (held .clauses) (R .count) (omega arith) Q new old (clauses st') e
 
 -- A clause of a line stands where the line does.
 clause-stands : {depth start : ℕ} {part : ℕ → List ℕ} {bytes : List ℕ} {held : code.HeldState} → LineStands part start bytes held → (at : ℕ) (c : Clause) →
@@ -151,21 +163,17 @@ clause-stands {start = start} {part = part} {bytes = bytes} P at c f formed fits
 
 -- One symbol more.
 symbol-added : {depth : ℕ} {part : ℕ → List ℕ} {held : code.HeldState} {st : State} (k : ℕ) → Represents depth part held st → held .symbols < maxSymbols →
-    Represents depth part (withSymbol held k) (advance st (syntax.sym k))
-unfolding heldTable advance clauses
-symbol-added {held = held} k R less = record {
+    Represents depth part (symbolHeld held k) (advance st (syntax.sym k))
+unfolding heldTable advance clauses symbolHeld
+symbol-added {held = held} k R less = rw (lt-ltb (held .symbols) maxSymbols less) (record {
   counts-room = length-set (held .counts) (held .symbols) k ∙ R .counts-room;
   starts-room = R .starts-room;
-  literals-room = R .literals-room;
-  widths-room = R .widths-room;
   table = rw (add-one, take-suc-set (held .counts) (held .symbols) k (omega (arith, R .counts-room))) (ap (λ x. x ++ (k ∷ [])) (R .table));
   symbols = rw (R .symbols, length-append) refl;
   inputs = R .inputs;
   count = R .count;
   places = R .places;
-  literals = R .literals;
-  widths = R .widths;
-}
+})
 
 -- The clauses after one more line.
 input-clauses : (st : State) (c : Clause) → T (isEmpty (st .steps)) → clauses (advance st (input c)) ≡ clauses st ++ (c ∷ [])
@@ -220,28 +228,41 @@ module _ {depth start : ℕ} {part : ℕ → List ℕ} {bytes : List ℕ} {held 
   unfolding byteOf
   small-byte {n} h = rw (le-leb n 255 (omega arith))
 
-  input-counted : countedIn (held .inputs) true ≡ held .inputs + 1
-  unfolding countedIn clauses
+  input-counted : counted (held .inputs) ≡ held .inputs + 1
+  unfolding counted clauses
   input-counted =
       rw (lt-ltb (held .inputs) (office .lines) (omega (arith, P .room, R .count, R .inputs, length-append (st .inputs) (map claimOf (st .steps)))))
 
-  state-after : (r : Reading) → readLine depth bytes ≡ r →
-      Represents depth part (withAdded held (addedBy start (held .inputs) (lineOf (st .symbols) bytes r))) (after st r)
-  unfolding after lineOf withAdded addedBy formNumber advance readFailure clauseMeasure stepMeasure joined countedIn
+  -- What a line adds, and the state and the lists with it.
+  abbrev added : Reading → Added
+  added r = addedBy start (held .inputs) (lineOf (st .symbols) bytes r)
+
+  abbrev After : Reading → Type 0
+  After r =
+      Represents depth part (withAdded held (added r)) (after st r)
+      × ((ls ws : List ℕ) → Sized st ls ws → Sized (after st r) (set ls (held .clauses) (added r .literals)) (set ws (held .clauses) (added r .width)))
+
+  clause-after : (c : Clause) (st' : State) {inputs : ℕ} → drop (placeOf bytes (fromClause c)) bytes ≡ fromClause c → T (formedClause depth c) × T (clauseFits c) → clauses st' ≡ clauses st ++ (c ∷ []) →
+      st' .symbols ≡ st .symbols → inputs ≡ length (st' .inputs) →
+      Represents depth part (clauseHeld held (placed start (placeOf bytes (fromClause c))) inputs) st'
+      × ((ls ws : List ℕ) → Sized st ls ws → Sized st' (set ls (held .clauses) (byteOf (length c))) (set ws (held .clauses) (byteOf (width c))))
+  clause-after c st' place fits e t i =
+      let w = clause-limits c .0 (fits .1) in (
+        clause-added st st' c e (R .count) (P .room) R refl (clause-stands P (placeOf bytes (fromClause c)) c place (fits .0) (fits .1)) t i,
+        λ ls ws S. sized-more st st' c e (R .count) (P .room) (small-byte (w .0)) (small-byte (w .2)) S,
+      )
+
+  state-after : (r : Reading) → readLine depth bytes ≡ r → After r
+  unfolding after lineOf stepOf withAdded addedBy clauseAdded advance readFailure clauseMeasure clauses
   state-after noForm e = absurd (omega (arith, sym (ap (readFailure st) e) ∙ passes))
   state-after (form (syntax.sym k)) e =
-      let room = sym-fits k e in
-      rw (small-byte {n = k} (omega (arith, room .0))) (symbol-added k R (omega (arith, room .1, R .symbols)))
+      let room = sym-fits k e in (
+        rw (small-byte {n = k} (omega (arith, room .0))) (symbol-added k R (omega (arith, room .1, R .symbols))),
+        λ ls ws S. sized-same _ _ ls ws refl (R .count) S,
+      )
   state-after (form (input c)) e =
-      let w = clause-limits c .0 (input-fits c e .1) in
-      let place = rw e at (input-place depth (st .symbols) bytes e) in
-      clause-added R (P .room) (clause-stands P (placeOf bytes (fromClause c)) c place (input-fits c e .0) (input-fits c e .1))
-      (small-byte (w .0)) (small-byte (w .2)) refl (input-clauses st c (unstepped c e)) (input-counted ∙ rw (R .inputs, length-append) refl)
-  state-after (form (by s)) e =
-      let w = clause-limits (s .claim) .0 (step-fits s e .1) in
-      let place = rw e at (claim-place depth (st .symbols) bytes e) in
-      clause-added R (P .room) (clause-stands P (placeOf bytes (fromClause (s .claim))) (s .claim) place (step-fits s e .0) (step-fits s e .1))
-      (small-byte (w .0)) (small-byte (w .2)) refl (step-clauses st s) (R .inputs)
+      clause-after c (advance st (input c)) (input-place depth bytes e) (input-fits c e) (input-clauses st c (unstepped c e)) refl (input-counted ∙ rw (R .inputs, length-append) refl)
+  state-after (form (by s)) e = clause-after (s .claim) (advance st (by s)) (claim-place depth bytes e) (step-fits s e) (step-clauses st s) refl (R .inputs)
 
 pub line-adds : (start inputs : ℕ) (l : LineAt) → Adds start inputs l (addedBy start inputs l)
 unfolding Adds

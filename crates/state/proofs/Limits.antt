@@ -7,16 +7,15 @@ use mathlib.Core.Logic.{_↔_}
 use native.Mathlib.Omega.{arith}
 use lib.Dec.{T, ltb, leb→le, le→leb, ltb→lt, lt→ltb}
 use lib.ListN.{length}
-use Rattle.logic.specs.Syntax.{Term, var, app, Terms, nil, cons, Atom, link, obj, method, lit, Clause, Step, by, input}
+use Rattle.logic.specs.Syntax.{Term, var, app, Terms, nil, cons, Atom, link, obj, method, lit, Clause, Step}
 use Rattle.logic.specs.Terms.{count, termsOf}
 use Rattle.logic.specs.Each.{eachTerm, eachTerms, eachAtom, eachClause, termWidth, termsWidth, width}
-use Rattle.reader.specs.declared.forms.LineAt.{LineAt}
+use Rattle.reader.specs.declared.measures.Measure.{Measure}
 use Rattle.text.specs.Figures.{maxArguments}
-use Rattle.text.specs.Form.{form}
 use Rattle.state.specs.State.{argumentsFit, argumentsFitAll, anySymbol, clauseFits, listFits}
 use Rattle.reader.specs.Summary.{joined, termsMeasure, clauseMeasure, argumentCount, mostArguments}
-use Rattle.reader.specs.LineAt.{stepMeasure, lineOf}
-use Rattle.state.specs.ReadLine.{lineFits}
+use Rattle.reader.specs.LineAt.{stepOf}
+use Rattle.state.specs.ReadLine.{lineFits, stepMost, stepMeasure}
 use Rattle.text.proofs.Tests.{T-and}
 
 -- Two tests that hold alike are equal.
@@ -80,22 +79,23 @@ list-limits ts = (
   λ h. simp T-and (le→leb (count ts) 32 (h .0), terms-below 32 ts .1 (h .1)),
 )
 
-line-limits : (l : LineAt) → T (lineFits l) ↔ (l .measure .count ≤ 32) × (l .measure .width ≤ 32) × (l .firsts ≤ 32) × (l .seconds ≤ 32) × (l .measure .arguments ≤ 8)
+line-limits : (most : ℕ) (m : Measure) → T (lineFits most m) ↔ (most ≤ 32) × (m .width ≤ 32) × (m .arguments ≤ 8)
 unfolding lineFits
-line-limits l = (
-  λ h. let (a, b) = simp T-and at h in let n = leb→le (max (max (l .measure .count) (l .measure .width)) (max (l .firsts) (l .seconds))) 32 a in let m = leb→le (l .measure .arguments) 8 b in omega arith,
-  λ h. simp T-and (le→leb (max (max (l .measure .count) (l .measure .width)) (max (l .firsts) (l .seconds))) 32 (omega arith), le→leb (l .measure .arguments) 8 (omega arith)),
+line-limits most m = (
+  λ h. let (a, b) = simp T-and at h in let n = leb→le (max most (m .width)) 32 a in let k = leb→le (m .arguments) 8 b in omega arith,
+  λ h. simp T-and (le→leb (max most (m .width)) 32 (omega arith), le→leb (m .arguments) 8 (omega arith)),
 )
 
 -- So the numbers of a line decide check 5.
-pub input-limits : (table s : List ℕ) (c : Clause) → lineFits (lineOf table s (form (input c))) ≡ clauseFits c
-unfolding lineOf clauseMeasure
-input-limits table s c =
-    same-test _ _ (λ h. let f = line-limits (lineOf table s (form (input c))) .0 h in clause-limits c .1 (omega arith))
-    (λ h. let f = clause-limits c .0 h in line-limits (lineOf table s (form (input c))) .1 (omega arith))
+pub input-limits : (table : List ℕ) (c : Clause) → lineFits (length c) (clauseMeasure table c) ≡ clauseFits c
+unfolding clauseMeasure
+input-limits table c =
+    same-test _ _ (λ h. let f = line-limits (length c) (clauseMeasure table c) .0 h in clause-limits c .1 (omega arith))
+    (λ h. let f = clause-limits c .0 h in line-limits (length c) (clauseMeasure table c) .1 (omega arith))
 
-pub step-limits : (table s : List ℕ) (st : Step) → lineFits (lineOf table s (form (by st))) ≡ listFits (st .first) && (listFits (st .second) && clauseFits (st .claim))
-unfolding lineOf stepMeasure joined clauseMeasure termsMeasure
+pub step-limits : (table s : List ℕ) (st : Step) → let x = stepOf table s st in lineFits (stepMost x) (stepMeasure x) ≡ listFits (st .first) && (listFits (st .second) && clauseFits (st .claim))
+unfolding stepOf stepMost stepMeasure joined clauseMeasure termsMeasure
 step-limits table s st =
-    same-test _ _ (λ h. let f = line-limits (lineOf table s (form (by st))) .0 h in simp T-and (list-limits (st .first) .1 (omega arith), (list-limits (st .second) .1 (omega arith), clause-limits (st .claim) .1 (omega arith))))
-    (λ h. let (a, b) = simp T-and at h in let x = list-limits (st .first) .0 a in let y = list-limits (st .second) .0 (b .0) in let z = clause-limits (st .claim) .0 (b .1) in line-limits (lineOf table s (form (by st))) .1 (omega arith))
+    let x = stepOf table s st in
+    same-test _ _ (λ h. let f = line-limits (stepMost x) (stepMeasure x) .0 h in simp T-and (list-limits (st .first) .1 (omega arith), (list-limits (st .second) .1 (omega arith), clause-limits (st .claim) .1 (omega arith))))
+    (λ h. let (a, b) = simp T-and at h in let x₁ = list-limits (st .first) .0 a in let y = list-limits (st .second) .0 (b .0) in let z = clause-limits (st .claim) .0 (b .1) in line-limits (stepMost x) (stepMeasure x) .1 (omega arith))

@@ -1,10 +1,10 @@
 // The reading state: the argument counts of the symbols and the places of the clauses. Checks 2 to 6 of a line.
-use reader::forms::Form;
-use reader::forms::INPUT;
+use reader::forms::ItemAt;
 use reader::forms::LineAt;
-use reader::forms::SYM;
-use reader::forms::form_number;
+use reader::forms::StepAt;
 use reader::forms::line;
+use reader::measures::Measure;
+use reader::measures::join;
 use reader::measures::larger;
 use text::BYTES;
 use text::Figures;
@@ -12,8 +12,8 @@ use text::LINES;
 ghost use mathlib.Core.Path.{_≡_};
 ghost use lib.ListN.{take};
 ghost use Rattle.state.specs.State.{hasConstant};
-ghost use Rattle.state.specs.ReadLine.{freshState, clauseFailure, failureOf, seenAt, placed, byteOf};
-ghost use Rattle.state.specs.ReadLine.{countedIn, addedBy, addedTo, slotOf};
+ghost use Rattle.state.specs.ReadLine.{freshState, clauseFailure, stepFailure, failureOf, seenAt, placed, byteOf};
+ghost use Rattle.state.specs.ReadLine.{counted as countedIn, clauseAdded, addedBy, symbolHeld, clauseHeld};
 ghost use Rattle.state.specs.Represents.{Begins, Sees, Adds};
 
 // The numbers of the checks.
@@ -42,14 +42,12 @@ const ITEMS: usize = 32;
 // The largest number of a byte.
 const BYTE: usize = 255;
 
-// Of each symbol its argument count; of each clause its place, its number of literals and its width. There is room for a clause of each
-// line of the office's texts.
+// Of each symbol its argument count, of each clause its place, and how many there are; of the clauses, how many are inputs. There is room
+// for a clause of each line of the office's texts.
 pub struct HeldState {
     pub counts: [u8; SYMBOLS],
     pub symbols: usize,
     pub starts: [u16; LINES],
-    pub literals: [u8; LINES],
-    pub widths: [u8; LINES],
     pub clauses: usize,
     pub inputs: usize,
 }
@@ -60,8 +58,8 @@ pub struct Seen {
     pub line: LineAt,
 }
 
-// What a line that passes adds to the state: a symbol's argument count; or a clause's place, number of literals and width, and the number
-// of in lines with it.
+// What a line that passes adds: a symbol's argument count; or a clause's place, number of literals and width, and the number of in lines
+// with it.
 pub struct Added {
     pub symbol: bool,
     pub k: u8,
@@ -77,14 +75,10 @@ pub fn fresh() -> HeldState
 {
     let counts = [0u8; SYMBOLS];
     let starts = [0u16; LINES];
-    let literals = [0u8; LINES];
-    let widths = [0u8; LINES];
     HeldState {
         counts,
         symbols: 0,
         starts,
-        literals,
-        widths,
         clauses: 0,
         inputs: 0,
     }
@@ -124,15 +118,14 @@ pub fn constant_held(counts: &[u8], symbols: usize) -> bool
     has_constant(table(counts, symbols))
 }
 
-// Checks 4 to 6 of a line with a clause.
-fn clause_failure(ready: bool, l: LineAt) -> usize
-    ensures { λ r. ⌜ r ≡ clauseFailure ready l ⌝ }
+// Checks 4 to 6 of a line with a clause, by the most literals or entries of a list and by the measure of all of it.
+fn clause_failure(ready: bool, most: usize, m: Measure) -> usize
+    ensures { λ r. ⌜ r ≡ clauseFailure ready most m ⌝ }
 {
     if !ready {
         return CONSTANT;
     }
-    let m = l.measure;
-    if larger(larger(m.count, m.width), larger(l.firsts, l.seconds)) > ITEMS {
+    if larger(most, m.width) > ITEMS {
         return LIMIT;
     }
     if m.arguments > ARGUMENTS {
@@ -141,29 +134,43 @@ fn clause_failure(ready: bool, l: LineAt) -> usize
     if m.declared { 0 } else { SYMBOL }
 }
 
+// Checks 4 to 6 of a step: its claim and its lists.
+fn step_failure(ready: bool, s: StepAt) -> usize
+    ensures { λ r. ⌜ r ≡ stepFailure ready s ⌝ }
+{
+    let claim = s.claim;
+    let first = s.first;
+    let second = s.second;
+    let m = claim.measure;
+    let firsts = first.measure;
+    let seconds = second.measure;
+    let most = larger(m.count, larger(firsts.count, seconds.count));
+    clause_failure(ready, most, join(m, join(firsts, seconds)))
+}
+
 // Checks 2 to 6.
 fn failure(symbols: usize, clauses: usize, inputs: usize, ready: bool, l: LineAt) -> usize
     ensures { λ r. ⌜ r ≡ failureOf symbols clauses inputs ready l ⌝ }
 {
-    let f = l.form;
-    match f {
-        Form::NoForm => FORM,
-        Form::Sym => {
+    match l {
+        LineAt::NoForm => FORM,
+        LineAt::Sym(k) => {
             if clauses != 0 {
                 return ORDER;
             }
             if symbols >= SYMBOLS {
                 return LIMIT;
             }
-            if l.k <= PARTS { 0 } else { LIMIT }
+            if k <= PARTS { 0 } else { LIMIT }
         }
-        Form::Input => {
+        LineAt::Input(c) => {
             if clauses != inputs {
                 return ORDER;
             }
-            clause_failure(ready, l)
+            let m = c.measure;
+            clause_failure(ready, m.count, m)
         }
-        Form::By => clause_failure(ready, l),
+        LineAt::By(s) => step_failure(ready, s),
     }
 }
 
@@ -210,16 +217,26 @@ fn byte(n: usize) -> u8
     n as u8
 }
 
-// One in line more, if it is one and there is room.
-fn counted(inputs: usize, input: bool) -> usize
-    ensures { λ r. ⌜ r ≡ countedIn inputs input ⌝ }
+// One in line more, if there is room.
+fn counted(inputs: usize) -> usize
+    ensures { λ r. ⌜ r ≡ countedIn inputs ⌝ }
 {
-    if input {
-        if inputs < LINES {
-            return inputs + 1;
-        }
+    if inputs < LINES { inputs + 1 } else { inputs }
+}
+
+// What a clause adds, of a line that begins at `start` of the text, with so many in lines.
+fn clause_added(start: usize, inputs: usize, c: ItemAt) -> Added
+    ensures { λ r. ⌜ r ≡ clauseAdded start inputs c ⌝ }
+{
+    let m = c.measure;
+    Added {
+        symbol: false,
+        k: 0,
+        start: place(start, c.start),
+        literals: byte(m.count),
+        width: byte(m.width),
+        inputs,
     }
-    inputs
 }
 
 // What a line that passes adds, which begins at `start` of the text and comes after so many in lines.
@@ -227,53 +244,69 @@ pub fn adds(start: usize, inputs: usize, l: LineAt) -> Added
     ensures { λ r. ⌜ r ≡ addedBy start inputs l ⌝ }
     ensures { λ r. ⌜ Adds start inputs l r ⌝ }
 {
-    let f = l.form;
-    let n = form_number(f);
-    let m = l.measure;
-    let k = byte(l.k);
-    let start = place(start, l.clause);
-    let literals = byte(m.count);
-    let width = byte(l.width);
-    let inputs = counted(inputs, n == INPUT);
-    Added {
-        symbol: n == SYM,
-        k,
-        start,
-        literals,
-        width,
-        inputs,
-    }
-}
-
-// The state after a line that passes, with what the line adds; as it was, where there is no room.
-pub fn after(state: HeldState, a: Added) -> HeldState
-    ensures { λ r. ⌜ r ≡ addedTo state a ⌝ }
-{
-    let mut next = state;
-    if a.symbol {
-        let n = next.symbols;
-        if n >= SYMBOLS {
-            return next;
+    match l {
+        LineAt::NoForm => Added {
+            symbol: false,
+            k: 0,
+            start: 0,
+            literals: 0,
+            width: 0,
+            inputs,
+        },
+        LineAt::Sym(k) => Added {
+            symbol: true,
+            k: byte(k),
+            start: 0,
+            literals: 0,
+            width: 0,
+            inputs,
+        },
+        LineAt::Input(c) => clause_added(start, counted(inputs), c),
+        LineAt::By(s) => {
+            let c = s.claim;
+            clause_added(start, inputs, c)
         }
-        next.counts[n] = a.k;
-        next.symbols = n + 1;
-        return next;
     }
-    let n = next.clauses;
-    if n >= LINES {
-        return next;
-    }
-    next.starts[n] = a.start;
-    next.literals[n] = a.literals;
-    next.widths[n] = a.width;
-    next.clauses = n + 1;
-    next.inputs = a.inputs;
-    next
 }
 
-// Where the state holds clause n; 0 where it has no room for it.
-pub fn slot(n: usize) -> usize
-    ensures { λ r. ⌜ r ≡ slotOf n ⌝ }
+// The state with one symbol more; as it was, where there is no room.
+pub fn with_symbol(state: HeldState, k: u8) -> HeldState
+    ensures { λ r. ⌜ r ≡ symbolHeld state k ⌝ }
 {
-    if n < LINES { n } else { 0 }
+    let mut counts = state.counts;
+    let mut symbols = state.symbols;
+    if symbols < SYMBOLS {
+        counts[symbols] = k;
+        symbols += 1;
+    }
+    let starts = state.starts;
+    HeldState {
+        counts,
+        symbols,
+        starts,
+        clauses: state.clauses,
+        inputs: state.inputs,
+    }
+}
+
+// The state with one clause more, which begins at `start`, and with so many in lines; as it was, where there is no room.
+pub fn with_clause(state: HeldState, start: u16, inputs: usize) -> HeldState
+    ensures { λ r. ⌜ r ≡ clauseHeld state start inputs ⌝ }
+{
+    let mut starts = state.starts;
+    let mut clauses = state.clauses;
+    let mut held = state.inputs;
+    if clauses < LINES {
+        starts[clauses] = start;
+        clauses += 1;
+        held = inputs;
+    }
+    let counts = state.counts;
+    HeldState {
+        counts,
+        symbols: state.symbols,
+        starts,
+        clauses,
+        inputs: held,
+    }
 }

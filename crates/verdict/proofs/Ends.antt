@@ -20,7 +20,7 @@ use Rattle.outcome.specs.Ends.{firstZero, endsAs, marksAs}
 use Rattle.meaning.specs.declared.Verdict.the-variants.{Refuted, Open, Refused}
 use Rattle.meaning.specs.Means.{named}
 use Rattle.meaning.specs.Answer.{isNil, firstEmpty, acceptedAs, finish, restsIn}
-use Rattle.verdict.specs.Running.{Parented}
+use Rattle.verdict.proofs.Kept.{Kept, Keeps}
 
 -- The numbers of literals are those of the clauses: the first 0 is the first empty clause.
 nil-test : (c : Clause) (n : ℕ) → n ≡ length c → eqb n 0 ≡ isNil c
@@ -47,30 +47,30 @@ module _ {depth : ℕ} {part : ℕ → List ℕ} {held : code.HeldState} {st : S
       let e : length (take (held .symbols) (held .counts)) ≡ length (st .symbols) = ap length (R .table) in
       omega (arith, e, length-take (held .symbols) (held .counts), R .symbols)
 
-  module _ {ps qs : List ℕ} {constant : Bool} {first : ℕ} (P : Parented st ps qs) (falls : ParentsFall (length (st .inputs)) (st .steps)) (room : held .clauses ≤ office .lines)
-      (c : constant ≡ hasConstant (heldTable held)) (f : first ≡ firstZero (take (held .clauses) (held .literals))) where
+  module _ {k : Kept} {constant : Bool} {first : ℕ} (K : Keeps st k) (falls : ParentsFall (length (st .inputs)) (st .steps)) (room : held .clauses ≤ office .lines)
+      (c : constant ≡ hasConstant (heldTable held)) (f : first ≡ firstZero (take (held .clauses) (k .literals))) where
     constant-is : constant ≡ hasConstant (st .symbols)
     constant-is = c ∙ ap hasConstant (R .table)
 
     first-is : first ≡ firstEmpty (clauses st)
-    first-is = f ∙ rw (R .count) (first-zero (clauses st) (held .literals) (omega (arith, R .count, R .literals-room)) (R .literals))
+    first-is = f ∙ rw (R .count) (first-zero (clauses st) (k .literals) (omega (arith, R .count, K .sized .literals-room)) (K .sized .literals-of))
 
     pub ends-held : endsAs constant (held .clauses) first ≡ finish st
     unfolding endsAs finish
     ends-held = rw (constant-is, first-is, R .count)
 
-    walked : first < held .clauses → named (inputsFrom ps qs (held .inputs) first) ≡ restsOn (length (st .inputs)) (st .steps) first
+    walked : first < held .clauses → named (inputsFrom (k .a) (k .b) (held .inputs) first) ≡ restsOn (length (st .inputs)) (st .steps) first
     unfolding named
     walked l =
         rw (R .inputs)
-        (walk-rests (length (st .inputs)) (st .steps) ps qs (P .first) (P .second) falls (omega (arith, R .count, clause-count st)) first (omega (arith, R .count, clause-count st)))
+        (walk-rests (length (st .inputs)) (st .steps) (k .a) (k .b) (K .first) (K .second) falls (omega (arith, R .count, clause-count st)) first (omega (arith, R .count, clause-count st)))
 
     -- The inputs that are named: none, or those that the walk back marks.
-    pub marks-held : (before : List Bool) → named before ≡ [] → named (marksAs constant (held .clauses) first (held .inputs) ps qs before) ≡ restsIn st (finish st)
+    pub marks-held : (before : List Bool) → named before ≡ [] → named (marksAs constant (held .clauses) first (held .inputs) (k .a) (k .b) before) ≡ restsIn st (finish st)
     unfolding endsAs acceptedAs marksAs restsIn
     marks-held before z = rw (← ends-held) (go constant (ltb first (held .clauses)) refl)
       where
-        go : (b d : Bool) → ltb first (held .clauses) ≡ d → named (cond b (cond d (inputsFrom ps qs (held .inputs) first) before) before) ≡ restsIn st (cond b (cond d (Refuted (held .clauses) first) (Open (held .clauses))) (Refused 4 0))
+        go : (b d : Bool) → ltb first (held .clauses) ≡ d → named (cond b (cond d (inputsFrom (k .a) (k .b) (held .inputs) first) before) before) ≡ restsIn st (cond b (cond d (Refuted (held .clauses) first) (Open (held .clauses))) (Refused 4 0))
         go true true e = walked (ltb-true first (held .clauses) e)
         go true false e = z
         go false d e = z

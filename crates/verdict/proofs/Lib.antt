@@ -1,4 +1,4 @@
+pub mod Kept
 pub mod Ends
-pub mod Judging
 pub mod Running
 pub mod TwoTexts

@@ -29,89 +29,23 @@ use Rattle.text.specs.Split.{Raw, ended, unended, split, tooLarge}
 use Rattle.text.specs.declared.Figures.{Figures}
 use Rattle.text.specs.Figures.{office, UpToOffice}
 use Rattle.text.specs.Size.{lineLength, firstLine}
-use Rattle.reader.specs.LineAt.{formNumber, lineOf}
-use Rattle.state.specs.ReadLine.{heldTable, withAdded, slotOf}
+use Rattle.reader.specs.LineAt.{stepOf, lineOf}
+use Rattle.state.specs.ReadLine.{heldTable, withAdded}
 use Rattle.state.specs.State.{State, fresh, claimOf, clauses, hasConstant, advance, ordered, constantReady, withinLimits, symbolsDeclared, after, stateAfter}
 use Rattle.state.specs.Failure.{lineFailure, readFailure}
 use Rattle.state.specs.Represents.{Represents, Begins, Sees, LineStands, Adds}
 use Rattle.text.proofs.Sizes.{bytes-ended, bytes-unended, bytes-length, split-at, split-over}
 use Rattle.meaning.specs.declared.Verdict.{Verdict}
 use Rattle.meaning.specs.declared.Verdict.the-variants.{Refused}
-use Rattle.verdict.specs.declared.HeldClause.{HeldClause}
 use Rattle.meaning.specs.Checks.{readings, stateOf}
 use Rattle.meaning.specs.Means.{named}
 use Rattle.meaning.specs.Answer.{stepFailure, failure, finish, readOn, restsIn}
-use Rattle.verdict.specs.Running.{HeldOf, JudgesRead, FirstFailing, Parented}
+use Rattle.step.specs.Step.{parentsAt}
+use Rattle.step.specs.Line.{FirstFailing}
+use Rattle.step.proofs.Judging.{read-passes}
+use Rattle.verdict.proofs.Kept.{Kept, Keeps, keptWith}
 use Rattle.verdict.proofs.Ends.{clause-count, ends-held, marks-held}
 use Rattle.meaning.proofs.Entailed.{Good, good-fresh, good-after, empty-list}
-
--- Checks 2 to 6, and then those of a step.
-unfoldable Then : ℕ → ℕ → ℕ → Type 0
-Then read step all = (read ≡ 0 → all ≡ step) × ((read ≡ 0 → ⊥) → all ≡ read)
-
-checks-then : (a b c d : Bool) (n : ℕ) → Then (cond a (cond b (cond c (cond d 0 6) 5) 4) 3) n (cond a (cond b (cond c (cond d n 6) 5) 4) 3)
-unfolding Then
-checks-then true true true true n = (λ _. refl, λ h. absurd (h refl))
-checks-then true true true false n = (λ h. absurd (omega arith), λ _. refl)
-checks-then true true false d n = (λ h. absurd (omega arith), λ _. refl)
-checks-then true false c d n = (λ h. absurd (omega arith), λ _. refl)
-checks-then false b c d n = (λ h. absurd (omega arith), λ _. refl)
-
-unfoldable ofStep : State → Reading → ℕ
-ofStep st noForm = 0
-ofStep st (form l) = stepFailure st l
-
-read-then : (st : State) (r : Reading) → Then (readFailure st r) (ofStep st r) (failure st r)
-unfolding readFailure failure lineFailure ofStep Then
-read-then st noForm = (λ h. absurd (omega arith), λ _. refl)
-read-then st (form l) = checks-then (ordered st l) (constantReady st l) (withinLimits st l) (symbolsDeclared st l) (stepFailure st l)
-
-passed-then : (st : State) (r : Reading) → readFailure st r ≡ 0 → failure st r ≡ ofStep st r
-unfolding Then
-passed-then st r = read-then st r .0
-
-failed-then : (st : State) (r : Reading) → (readFailure st r ≡ 0 → ⊥) → failure st r ≡ readFailure st r
-unfolding Then
-failed-then st r = read-then st r .1
-
--- A line that is no step, and one that is.
-no-step : (st : State) (table bytes : List ℕ) (r : Reading) → (formNumber (lineOf table bytes r .form) ≡ 3 → ⊥) → ofStep st r ≡ 0
-unfolding formNumber lineOf ofStep stepFailure
-no-step st table bytes noForm n = refl
-no-step st table bytes (form (syntax.sym k)) n = refl
-no-step st table bytes (form (input c)) n = refl
-no-step st table bytes (form (by s)) n = absurd (n refl)
-
-a-step : (table bytes : List ℕ) (r : Reading) → formNumber (lineOf table bytes r .form) ≡ 3 → (s : Step) × (r ≡ form (by s))
-unfolding formNumber lineOf
-a-step table bytes noForm e = absurd (omega arith)
-a-step table bytes (form (syntax.sym k)) e = absurd (omega arith)
-a-step table bytes (form (input c)) e = absurd (omega arith)
-a-step table bytes (form (by s)) e = (s, refl)
-
--- A line as it was seen, and what the rules say where it is a step.
-module _ {depth : ℕ} {part : ℕ → List ℕ} {held : code.HeldState} {st : State} (R : Represents depth part held st) (line : List ℕ) (s : Seen)
-    (f : s .failure ≡ readFailure st (readLine depth line)) (e : s .line ≡ lineOf (st .symbols) line (readLine depth line)) where
-  pub fails-read : (s .failure ≡ 0 → ⊥) → s .failure ≡ failure st (readLine depth line)
-  fails-read n = f ∙ sym (failed-then st (readLine depth line) (λ z. n (f ∙ z)))
-
-  passes : s .failure ≡ 0 → readFailure st (readLine depth line) ≡ 0
-  passes z = sym f ∙ z
-
-  pub fails-none : s .failure ≡ 0 → (formNumber (s .line .form) ≡ 3 → ⊥) → 0 ≡ failure st (readLine depth line)
-  fails-none z n =
-      let r = readLine depth line in
-      sym (passed-then st r (passes z) ∙ no-step st (st .symbols) line r (λ q. n (ap (λ (l : LineAt). formNumber (l .form)) e ∙ q)))
-
-  pub fails-step : (own : ℕ) (a b : HeldClause) → s .failure ≡ 0 → formNumber (s .line .form) ≡ 3 → own ≡ held .clauses → HeldOf held (s .line .a) a →
-      HeldOf held (s .line .b) b → (j : Judged) {n : ℕ} →
-      JudgesRead depth part own a b line (s .line) j → n ≡ judgedNumber j → n ≡ failure st (readLine depth line)
-  unfolding JudgesRead ofStep stepFailure
-  fails-step own a b z k o ha hb j {n} g q =
-      let (p, r) = a-step (st .symbols) line (readLine depth line) (sym (ap (λ (l : LineAt). formNumber (l .form)) e) ∙ k) in
-      let k = sym (ap (readFailure st) r) ∙ passes z in
-      let m = g held st p (st .symbols) o ha hb (e ∙ ap (lineOf (st .symbols) line) r) R r k in
-      q ∙ ap judgedNumber m ∙ sym (passed-then st (form (by p)) k) ∙ ap (failure st) (sym r)
 
 -- The first line of what is left to read.
 split-unended : (text : List ℕ) → 0 < length text → length text ≤ lineLength text → split text ≡ unended text ∷ []
@@ -165,10 +99,10 @@ no-length (x ∷ xs) e = absurd (omega arith)
 
 -- A place between two lines of a text, what is left of it given: what is held represents a state that the rules give, with no more clauses
 -- than lines, and reading on from that state is reading the text.
-pub record Reached (F : Figures) (part : ℕ → List ℕ) (text rest : List ℕ) (lines : ℕ) (held : code.HeldState) (ps qs : List ℕ) : Type 0 where
+pub record Reached (F : Figures) (part : ℕ → List ℕ) (text rest : List ℕ) (lines : ℕ) (held : code.HeldState) (k : Kept) : Type 0 where
   pub st : State
   pub holds : Represents (F .depth) part held st
-  pub parented : Parented st ps qs
+  pub kept : Keeps st k
   pub good : Good st
   pub room : held .clauses ≤ lines
   pub counted : lines + length (split rest) ≡ length (split text)
@@ -186,15 +120,19 @@ text-within F text e =
     let (b, l) = neither (ltb (F .bytes) (length text)) (ltb (F .lines) (length (split text))) e in
     (ltb-false (F .bytes) (length text) b, ltb-false (F .lines) (length (split text)) l)
 
-pub reached-first : (F : Figures) (part : ℕ → List ℕ) (text : List ℕ) → UpToOffice F → tooLarge F text ≡ false → (held : code.HeldState) (ps qs : List ℕ) →
-    Begins held → Reached F part text text 0 held ps qs
+pub reached-first : (F : Figures) (part : ℕ → List ℕ) (text : List ℕ) → UpToOffice F → tooLarge F text ≡ false → (held : code.HeldState) (k : Kept) →
+    Begins held → length (k .literals) ≡ office .lines → length (k .widths) ≡ office .lines → Reached F part text text 0 held k
 unfolding Begins fresh clauses stateOf HeldFrom
-reached-first F part text u e held ps qs b =
+reached-first F part text u e held k b l w =
     let R = b (F .depth) part in
     record {
       st = fresh;
       holds = R;
-      parented = record { first = tt; second = tt };
+      kept = record {
+        first = tt;
+        second = tt;
+        sized = record { literals-room = l; widths-room = w; literals-of = λ n h. absurd (omega arith); widths-of = λ n h. absurd (omega arith) };
+      };
       good = good-fresh;
       room = omega (arith, R .count);
       counted = omega arith;
@@ -203,7 +141,7 @@ reached-first F part text u e held ps qs b =
       whole = refl;
     }
 
-module _ {F : Figures} {part : ℕ → List ℕ} {text rest : List ℕ} {lines : ℕ} {held : code.HeldState} {ps qs : List ℕ} (P : Reached F part text rest lines held ps qs) (h : 0 < length rest)
+module _ {F : Figures} {part : ℕ → List ℕ} {text rest : List ℕ} {lines : ℕ} {held : code.HeldState} {k : Kept} (P : Reached F part text rest lines held k) (h : 0 < length rest)
     {n : ℕ} (N : n ≡ failure (P .st) (readLine (F .depth) (firstLine rest))) where
   raw-failure : (raw : Raw) (raws : List Raw) → split rest ≡ raw ∷ raws → n ≡ failure (P .st) (readRaw (F .depth) raw)
   raw-failure raw raws q = N ∙ ap (failure (P .st)) (sym (raw-read rest h (F .depth) raw raws q))
@@ -240,8 +178,8 @@ module _ {F : Figures} {part : ℕ → List ℕ} {text rest : List ℕ} {lines :
   went-on raw raws q z = rw (q, ← raw-failure raw raws q, eq-eqb n 0 z)
 
   module _ (a : Added) (z : n ≡ 0) (A : Represents (F .depth) part (withAdded held a) (after (P .st) (readLine (F .depth) (firstLine rest))))
-      {ps′ qs′ : List ℕ} (B : Parented (after (P .st) (readLine (F .depth) (firstLine rest))) ps′ qs′) where
-    pub reached-after : Reached F part text (drop (length (firstLine rest) + 1) rest) (lines + 1) (withAdded held a) ps′ qs′
+      {k′ : Kept} (B : Keeps (after (P .st) (readLine (F .depth) (firstLine rest))) k′) where
+    pub reached-after : Reached F part text (drop (length (firstLine rest) + 1) rest) (lines + 1) (withAdded held a) k′
     unfolding readings stateAfter
     reached-after =
         let l = line-is-ended z in
@@ -253,7 +191,7 @@ module _ {F : Figures} {part : ℕ → List ℕ} {text rest : List ℕ} {lines :
         record {
           st = after (P .st) (readRaw (F .depth) raw);
           holds = R;
-          parented = rw e B;
+          kept = rw e B;
           good = rw e (good-after F (P .st) (readLine (F .depth) (firstLine rest)) (P .good) (sym N ∙ z));
           room = omega (arith, R .count, P .holds .count, P .room, clauses-after (P .st) (readRaw (F .depth) raw));
           counted = omega (arith, P .counted, ap length q);
@@ -294,67 +232,11 @@ held-after f st (form (by s)) ps x z l e w =
     (held-set f (length (st .inputs)) ps (st .steps) (length (clauses st)) x (omega (arith, clause-count st)) w)
     (rw (← clause-count st) (getD-set-same ps (length (clauses st)) x 0 l ∙ e s refl))
 
--- A line that passes checks 2 to 11 passes 2 to 6.
-read-passes : (st : State) (r : Reading) → failure st r ≡ 0 → readFailure st r ≡ 0
-read-passes st r z = go (ℕ-discrete (readFailure st r) 0)
-  where
-    go : Dec (readFailure st r ≡ 0) → readFailure st r ≡ 0
-    go (yes e) = e
-    go (no n) = sym (failed-then st r n) ∙ z
+step-parents : (table bytes : List ℕ) (t : Step) → parentsAt (lineOf table bytes (form (by t))) ≡ parentsOf t
+unfolding lineOf stepOf parentsAt
+step-parents table bytes t = refl
 
-step-parents : (table bytes : List ℕ) (t : Step) {l : LineAt} → l ≡ lineOf table bytes (form (by t)) → parentsBy (l .rule) (l .a) (l .b) ≡ parentsOf t
-unfolding lineOf
-step-parents table bytes t e = rw e
-
--- The line from a place that is reached on, as the code sees it, with what it holds of the clauses that the line names.
-module _ {F : Figures} {part : ℕ → List ℕ} {text rest : List ℕ} {lines : ℕ} {held : code.HeldState} {ps qs : List ℕ} (P : Reached F part text rest lines held ps qs) {bytes : List ℕ}
-    (e : bytes ≡ firstLine rest) (s : Seen) (S : Sees (F .depth) (held .counts) (held .symbols) (held .clauses) (held .inputs) bytes s) where
-  read : (s .failure ≡ readFailure (P .st) (readLine (F .depth) bytes)) × (s .line ≡ lineOf (P .st .symbols) bytes (readLine (F .depth) bytes))
-  unfolding Sees
-  read = S part held (P .st) (P .holds) refl refl refl refl
-
-  pub line-number : (a b : HeldClause) → HeldOf held (s .line .a) a → HeldOf held (s .line .b) b → (n : ℕ) → FirstFailing (F .depth) part (held .clauses) a b bytes s n →
-      n ≡ failure (P .st) (readLine (F .depth) (firstLine rest))
-  unfolding FirstFailing
-  line-number a b ha hb n f =
-      rw (← e) (f held (P .st) (P .holds) refl ha hb (read .0) (read .1))
-
-  pub line-parented : {n : ℕ} → n ≡ failure (P .st) (readLine (F .depth) (firstLine rest)) → n ≡ 0 → held .clauses < office .lines → (p : Parents) →
-      p ≡ parentsBy (s .line .rule) (s .line .a) (s .line .b) → length ps ≡ office .lines → length qs ≡ office .lines →
-      Parented (after (P .st) (readLine (F .depth) (firstLine rest))) (set ps (held .clauses) (p .a)) (set qs (held .clauses) (p .b))
-  line-parented N z room p g lp lq =
-      let st = P .st in
-      let r = readLine (F .depth) (firstLine rest) in
-      let z′ = read-passes st r (sym N ∙ z) in
-      let told : (t : Step) → r ≡ form (by t) → p ≡ parentsOf t = λ t k. g ∙ step-parents (st .symbols) bytes t (read .1 ∙ ap (lineOf (st .symbols) bytes) (ap (readLine (F .depth)) e ∙ k)) in
-      rw (P .holds .count) (record {
-        first = held-after (λ t. parentsOf t .a) st r ps (p .a) z′ (omega (arith, P .holds .count)) (λ t k. ap (λ (x : Parents). x .a) (told t k)) (P .parented .first);
-        second = held-after (λ t. parentsOf t .b) st r qs (p .b) z′ (omega (arith, P .holds .count)) (λ t k. ap (λ (x : Parents). x .b) (told t k)) (P .parented .second);
-      })
-
-  pub line-added : {n at : ℕ} → n ≡ failure (P .st) (readLine (F .depth) (firstLine rest)) → n ≡ 0 → LineStands part at (firstLine rest) held → (a : Added) →
-      Adds at (held .inputs) (s .line) a → Represents (F .depth) part (withAdded held a) (after (P .st) (readLine (F .depth) (firstLine rest)))
-  unfolding Adds
-  line-added N z L a A =
-      A (F .depth) part (firstLine rest) held (P .st) (P .holds) L refl (rw e at (read .1)) (read-passes (P .st) _ (sym N ∙ z))
-
--- What is held of clause n, at its slot.
-pub slot-below : (n : ℕ) {k : ℕ} → k ≡ slotOf n → k < office .lines
-unfolding slotOf
-slot-below n {k} e = go (ltb n (office .lines)) refl
-  where
-    go : (b : Bool) → ltb n (office .lines) ≡ b → k < office .lines
-    go true t = let q : k ≡ n = e ∙ rw t in omega (arith, ltb-true n (office .lines) t)
-    go false t = let q : k ≡ 0 = e ∙ rw t in omega arith
-
-pub held-of : (held : code.HeldState) (n : ℕ) {k : ℕ} {a : HeldClause} → held .clauses ≤ office .lines → k ≡ slotOf n →
-    a ≡ record { start = getD (held .starts) k 0; literals = getD (held .literals) k 0; width = getD (held .widths) k 0 } → HeldOf held n a
-unfolding HeldOf slotOf
-held-of held n {k} l e f h =
-    let q : k ≡ n = e ∙ rw (lt-ltb n (office .lines) (omega arith)) in
-    rw (f, q) (refl, refl, refl)
-
-module _ {F : Figures} {part : ℕ → List ℕ} {text rest : List ℕ} {lines : ℕ} {held : code.HeldState} {ps qs : List ℕ} (P : Reached F part text rest lines held ps qs) where
+module _ {F : Figures} {part : ℕ → List ℕ} {text rest : List ℕ} {lines : ℕ} {held : code.HeldState} {k : Kept} (P : Reached F part text rest lines held k) where
   pub held-within : held .clauses ≤ office .lines
   held-within = omega (arith, P .room, P .counted, P .few)
 
@@ -366,11 +248,43 @@ module _ {F : Figures} {part : ℕ → List ℕ} {text rest : List ℕ} {lines :
       (P .onward ∙ rw e, P .whole ∙ rw e)
 
   pub finished : length rest ≡ 0 → {constant : Bool} {first : ℕ} {v : Verdict} {marks : List Bool} (before : List Bool) → v ≡ endsAs constant (held .clauses) first →
-      marks ≡ marksAs constant (held .clauses) first (held .inputs) ps qs before → constant ≡ hasConstant (heldTable held) →
-      first ≡ firstZero (take (held .clauses) (held .literals)) → named before ≡ [] → (v ≡ readOn fresh 1 (readings F text)) × (named marks ≡ restsIn (stateOf F text) v)
+      marks ≡ marksAs constant (held .clauses) first (held .inputs) (k .a) (k .b) before → constant ≡ hasConstant (heldTable held) →
+      first ≡ firstZero (take (held .clauses) (k .literals)) → named before ≡ [] → (v ≡ readOn fresh 1 (readings F text)) × (named marks ≡ restsIn (stateOf F text) v)
   finished h before e m c f z =
       let st = P .st in
       let falls = given-falls (st .symbols) (st .inputs) (st .steps) (P .good .given) in
-      let q = e ∙ ends-held (P .holds) (P .parented) falls held-within c f in
-      let (k, g) = reached-end h in
-      (q ∙ sym k, ap named m ∙ marks-held (P .holds) (P .parented) falls held-within c f before z ∙ rw (g, q))
+      let q = e ∙ ends-held (P .holds) (P .kept) falls held-within c f in
+      let (w, g) = reached-end h in
+      (q ∙ sym w, ap named m ∙ marks-held (P .holds) (P .kept) falls held-within c f before z ∙ rw (g, q))
+
+-- The line from a place that is reached on, as the code sees it, with what it holds of the clauses before it.
+module _ {F : Figures} {part : ℕ → List ℕ} {text rest : List ℕ} {lines : ℕ} {held : code.HeldState} {k : Kept} (P : Reached F part text rest lines held k) {bytes : List ℕ}
+    (e : bytes ≡ firstLine rest) (s : Seen) (S : Sees (F .depth) (held .counts) (held .symbols) (held .clauses) (held .inputs) bytes s) where
+  read : (s .failure ≡ readFailure (P .st) (readLine (F .depth) bytes)) × (s .line ≡ lineOf (P .st .symbols) bytes (readLine (F .depth) bytes))
+  unfolding Sees
+  read = S part held (P .st) (P .holds) refl refl refl refl
+
+  pub line-number : (n : ℕ) → FirstFailing (F .depth) part (held .starts) (k .literals) (k .widths) (held .clauses) bytes s n →
+      n ≡ failure (P .st) (readLine (F .depth) (firstLine rest))
+  unfolding FirstFailing
+  line-number n f = rw (← e) (f held (P .st) (P .holds) (P .kept .sized) refl refl (held-within P) (read .0) (read .1))
+
+  pub line-kept : {n at : ℕ} → n ≡ failure (P .st) (readLine (F .depth) (firstLine rest)) → n ≡ 0 → LineStands part at (firstLine rest) held →
+      length (k .a) ≡ office .lines → length (k .b) ≡ office .lines → (a : Added) → Adds at (held .inputs) (s .line) a → (p : Parents) → p ≡ parentsAt (s .line) →
+      let st = after (P .st) (readLine (F .depth) (firstLine rest)) in Represents (F .depth) part (withAdded held a) st × Keeps st (keptWith k (held .clauses) p a)
+  unfolding Adds
+  line-kept N z L la lb a A p g =
+      let st = P .st in
+      let r = readLine (F .depth) (firstLine rest) in
+      let passes = read-passes st r (sym N ∙ z) in
+      let is : s .line ≡ lineOf (st .symbols) (firstLine rest) r = rw e at (read .1) in
+      let told : (t : Step) → r ≡ form (by t) → p ≡ parentsOf t = λ t q. g ∙ ap parentsAt (is ∙ ap (lineOf (st .symbols) (firstLine rest)) q) ∙ step-parents (st .symbols) (firstLine rest) t in
+      let added = A (F .depth) part (firstLine rest) held st (P .holds) L refl is passes in
+      let room = L .room in (
+        added .0,
+        record {
+          first = rw (P .holds .count) (held-after (λ t. parentsOf t .a) st r (k .a) (p .a) passes (omega (arith, P .holds .count)) (λ t q. ap (λ (x : Parents). x .a) (told t q)) (P .kept .first));
+          second = rw (P .holds .count) (held-after (λ t. parentsOf t .b) st r (k .b) (p .b) passes (omega (arith, P .holds .count)) (λ t q. ap (λ (x : Parents). x .b) (told t q)) (P .kept .second));
+          sized = added .1 (k .literals) (k .widths) (P .kept .sized);
+        },
+      )

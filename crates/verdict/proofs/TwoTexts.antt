@@ -12,7 +12,6 @@ use lib.Dec.{T, ltb}
 use lib.ListN.{length, set, take, drop, length-append, length-map, length-drop}
 use lib.Seq.{drop-drop, drop-append-le}
 use Rattle.descent.specs.declared.Parents.{Parents}
-use Rattle.descent.specs.Walk.{parentsBy}
 use Rattle.outcome.specs.Ends.{firstZero, endsAs, marksAs}
 use Rattle.state.specs.declared.HeldState as code
 use Rattle.state.specs.declared.Seen.{Seen}
@@ -24,7 +23,7 @@ use Rattle.text.specs.Figures.{office, maxSymbols, UpToOffice}
 use Rattle.text.specs.Size.{firstLine, partAt}
 use Rattle.text.proofs.Places.{past}
 use Rattle.text.proofs.Sizes.{part-on}
-use Rattle.state.specs.ReadLine.{heldTable, withSymbol, withClause, withAdded}
+use Rattle.state.specs.ReadLine.{heldTable, withAdded}
 use Rattle.state.specs.State.{State, fresh, clauses, hasConstant, after}
 use Rattle.state.specs.Represents.{Represents, Begins, LineStands, Adds}
 use Rattle.meaning.specs.declared.Verdict.{Verdict}
@@ -33,7 +32,9 @@ use Rattle.meaning.specs.Checks.{readings, stateOf}
 use Rattle.meaning.specs.Means.{named}
 use Rattle.meaning.specs.Guarantee.{isAccepted}
 use Rattle.meaning.specs.Answer.{failure, firstEmpty, acceptedAs, finish, readOn, verdict, restsIn, rests, jointly}
-use Rattle.verdict.specs.Running.{Parented, leftOf, seamFailure, Answers}
+use Rattle.verdict.specs.Running.{Answers}
+use Rattle.step.specs.Step.{parentsAt, leftOf, seamFailure}
+use Rattle.verdict.proofs.Kept.{Kept, Keeps, keptWith}
 use Rattle.verdict.proofs.Ends.{symbols-within}
 use Rattle.verdict.proofs.Running.{Reached, text-within, reached-first, line-refused, line-within, line-before, clause-room, reached-after, reached-end, finished, no-length}
 use Rattle.meaning.proofs.Jobs.{read-verdict, lines-append, read-joined, state-joined, jointly-alone, jointly-joined, jointly-nothing}
@@ -52,20 +53,20 @@ pub record Joined (F : Figures) (base job : List ℕ) (at : ℕ) (text rest : Li
   pub small : tooLarge F (base ++ job) ≡ false
 
 -- A place between two lines, at a stage of the reading.
-pub record Place (Stage : List ℕ → List ℕ → Type 0) (F : Figures) (base job : List ℕ) (at lines : ℕ) (held : code.HeldState) (ps qs : List ℕ) : Type 0 where
+pub record Place (Stage : List ℕ → List ℕ → Type 0) (F : Figures) (base job : List ℕ) (at lines : ℕ) (held : code.HeldState) (k : Kept) : Type 0 where
   pub text : List ℕ
   pub rest : List ℕ
   pub stage : Stage text rest
   pub fits : at + length rest ≤ office .bytes
   pub within : at + length rest ≤ length base + length job
-  pub reached : Reached F (partAt base job) text rest lines held ps qs
+  pub reached : Reached F (partAt base job) text rest lines held k
 
 -- The reading came there.
-abbrev pub Came : Figures → List ℕ → List ℕ → ℕ → ℕ → code.HeldState → List ℕ → List ℕ → Type 0
+abbrev pub Came : Figures → List ℕ → List ℕ → ℕ → ℕ → code.HeldState → Kept → Type 0
 Came F base job at = Place (λ text rest. Alone base at text rest ⊎ (Joined F base job at text rest × (length base < at))) F base job at
 
 -- A line is to be read there: what is left begins there, in the base or in the job.
-abbrev pub Ahead : Figures → List ℕ → List ℕ → ℕ → ℕ → code.HeldState → List ℕ → List ℕ → Type 0
+abbrev pub Ahead : Figures → List ℕ → List ℕ → ℕ → ℕ → code.HeldState → Kept → Type 0
 Ahead F base job at =
     Place (λ text rest. ((Alone base at text rest × (at < length base)) ⊎ Joined F base job at text rest) × (rest ≡ partAt base job at)) F base job at
 
@@ -150,23 +151,23 @@ module _ (F : Figures) (base job : List ℕ) (u : UpToOffice F) (small : tooLarg
   unfolding Answers rests
   text-answers text s j (e, g) = let w = e ∙ read-verdict F text s in rw (j, ← w) (refl, g)
 
-  pub came-first : (held : code.HeldState) (ps qs : List ℕ) → Begins held → Came F base job 0 0 held ps qs
-  came-first held ps qs b = record {
+  pub came-first : (held : code.HeldState) (k : Kept) → Begins held → length (k .literals) ≡ office .lines → length (k .widths) ≡ office .lines → Came F base job 0 0 held k
+  came-first held k b l w = record {
     text = base;
     rest = base;
     stage = inl (record { is = refl; left = refl; within = omega arith });
     fits = omega (arith, text-within F base small .0, u .bytes);
     within = omega arith;
-    reached = reached-first F (partAt base job) base u small held ps qs b;
+    reached = reached-first F (partAt base job) base u small held k b l w;
   }
 
-  module _ {at lines : ℕ} {held : code.HeldState} {ps qs : List ℕ} (P : Came F base job at lines held ps qs) where
+  module _ {at lines : ℕ} {held : code.HeldState} {k : Kept} (P : Came F base job at lines held k) where
     -- Where the base ends: all its lines are read.
     module _ (q : at ≡ length base) where
-      base-read : Reached F (partAt base job) base [] lines held ps qs
+      base-read : Reached F (partAt base job) base [] lines held k
       base-read = go (P .stage)
         where
-          go : Alone base at (P .text) (P .rest) ⊎ (Joined F base job at (P .text) (P .rest) × (length base < at)) → Reached F (partAt base job) base [] lines held ps qs
+          go : Alone base at (P .text) (P .rest) ⊎ (Joined F base job at (P .text) (P .rest) × (length base < at)) → Reached F (partAt base job) base [] lines held k
           go (inl A) =
               let e : P .rest ≡ [] = A .left ∙ past base at (omega (arith, q)) in
               rw (A .is, e) at (P .reached)
@@ -229,7 +230,7 @@ module _ (F : Figures) (base job : List ℕ) (u : UpToOffice F) (small : tooLarg
               go true b = let k : n ≡ 1 = number-of true constant-there ∙ rw b in absurd (omega (arith, z, k))
               go false b = b
 
-          job-reached : Reached F (partAt base job) (base ++ job) job lines held ps qs
+          job-reached : Reached F (partAt base job) (base ++ job) job lines held k
           unfolding readings
           job-reached =
               let a : T (isAccepted (verdict F base)) = rw (base-taken constant-there) tt in
@@ -239,7 +240,7 @@ module _ (F : Figures) (base job : List ℕ) (u : UpToOffice F) (small : tooLarg
               record {
                 st = st;
                 holds = base-read .holds;
-                parented = base-read .parented;
+                kept = base-read .kept;
                 good = base-read .good;
                 room = base-read .room;
                 counted = omega (arith, base-lines, ap length s, length-append (split base) (split job));
@@ -248,7 +249,7 @@ module _ (F : Figures) (base job : List ℕ) (u : UpToOffice F) (small : tooLarg
                 whole = state-joined F base small a job ∙ rw (w .1);
               }
 
-          job-ahead : Ahead F base job at lines held ps qs
+          job-ahead : Ahead F base job at lines held k
           job-ahead =
               let k : at - length base ≡ 0 = omega (arith, q) in
               let e : job ≡ drop (at - length base) job = rw k in
@@ -283,21 +284,21 @@ module _ (F : Figures) (base job : List ℕ) (u : UpToOffice F) (small : tooLarg
         go (no q) = absurd (z (N ∙ rw (ne-eqb at (length base) q)))
 
     -- A line is ahead: of the base, or of the job, whose beginning is passed.
-    pub came-ahead : seamFailure F (take (held .symbols) (held .counts)) (length base) at lines job ≡ 0 → Ahead F base job at lines held ps qs
+    pub came-ahead : seamFailure F (take (held .symbols) (held .counts)) (length base) at lines job ≡ 0 → Ahead F base job at lines held k
     came-ahead z = go (ℕ-discrete at (length base)) (P .stage)
       where
-        ahead : ((Alone base at (P .text) (P .rest) × (at < length base)) ⊎ Joined F base job at (P .text) (P .rest)) × (P .rest ≡ partAt base job at) → Ahead F base job at lines held ps qs
+        ahead : ((Alone base at (P .text) (P .rest) × (at < length base)) ⊎ Joined F base job at (P .text) (P .rest)) × (P .rest ≡ partAt base job at) → Ahead F base job at lines held k
         ahead s = record { text = P .text; rest = P .rest; stage = s; fits = P .fits; within = P .within; reached = P .reached }
 
-        go : Dec (at ≡ length base) → Alone base at (P .text) (P .rest) ⊎ (Joined F base job at (P .text) (P .rest) × (length base < at)) → Ahead F base job at lines held ps qs
+        go : Dec (at ≡ length base) → Alone base at (P .text) (P .rest) ⊎ (Joined F base job at (P .text) (P .rest) × (length base < at)) → Ahead F base job at lines held k
         go (yes q) s = job-ahead q refl z
         go (no q) (inl A) = let l : at < length base = omega (arith, A .within) in ahead (inl (A, l), A .left ∙ sym (part-base base job at l))
         go (no q) (inr (J, l)) = ahead (inr J, J .left ∙ sym (part-job base job at (J .within)))
 
     -- All lines are read.
     pub came-end : length base + min (length job) (office .bytes + 1) ≤ at → {constant : Bool} {first : ℕ} {v : Verdict} {marks : List Bool} (before : List Bool) →
-        v ≡ endsAs constant (held .clauses) first → marks ≡ marksAs constant (held .clauses) first (held .inputs) ps qs before → constant ≡ hasConstant (heldTable held) →
-        first ≡ firstZero (take (held .clauses) (held .literals)) → named before ≡ [] → Answers F base job v (named marks)
+        v ≡ endsAs constant (held .clauses) first → marks ≡ marksAs constant (held .clauses) first (held .inputs) (k .a) (k .b) before → constant ≡ hasConstant (heldTable held) →
+        first ≡ firstZero (take (held .clauses) (k .literals)) → named before ≡ [] → Answers F base job v (named marks)
     came-end e {v = v} {marks = marks} before f m c d z = go (P .stage)
       where
         h : length (partAt base job at) ≡ 0
@@ -315,7 +316,7 @@ module _ (F : Figures) (base job : List ℕ) (u : UpToOffice F) (small : tooLarg
             text-answers (base ++ job) (J .small) (jointly-joined F base job (J .accepted)) (rw (J .is) at (finished (P .reached) (ap length e ∙ h) before f m c d z))
 
   -- A line as it was read, once its number is known.
-  module _ {at lines : ℕ} {held : code.HeldState} {ps qs : List ℕ} (P : Ahead F base job at lines held ps qs) (some : 0 < length (partAt base job at)) {n : ℕ}
+  module _ {at lines : ℕ} {held : code.HeldState} {k : Kept} (P : Ahead F base job at lines held k) (some : 0 < length (partAt base job at)) {n : ℕ}
       (N : n ≡ failure (P .reached .st) (readLine (F .depth) (firstLine (P .rest)))) where
     left-some : 0 < length (P .rest)
     left-some = rw (P .stage .1) some
@@ -354,8 +355,8 @@ module _ (F : Figures) (base job : List ℕ) (u : UpToOffice F) (small : tooLarg
     line-after z = let l = line-within (P .reached) left-some N z in (omega (arith, P .within, l), omega (arith, P .fits, l))
 
     module _ (a : Added) (z : n ≡ 0) (A : Represents (F .depth) (partAt base job) (withAdded held a) (after (P .reached .st) (readLine (F .depth) (firstLine (P .rest)))))
-        {ps′ qs′ : List ℕ} (B : Parented (after (P .reached .st) (readLine (F .depth) (firstLine (P .rest)))) ps′ qs′) where
-      came-after : Came F base job (at + (length (firstLine (P .rest)) + 1)) (lines + 1) (withAdded held a) ps′ qs′
+        {k′ : Kept} (B : Keeps (after (P .reached .st) (readLine (F .depth) (firstLine (P .rest)))) k′) where
+      pub came-after : Came F base job (at + (length (firstLine (P .rest)) + 1)) (lines + 1) (withAdded held a) k′
       came-after =
           let k = length (firstLine (P .rest)) + 1 in
           let l = line-within (P .reached) left-some N z in
@@ -390,30 +391,18 @@ module _ (F : Figures) (base job : List ℕ) (u : UpToOffice F) (small : tooLarg
                 omega (arith, J .within),
               )
 
-      pub symbol-came : a .symbol ≡ true → Came F base job (at + (length (firstLine (P .rest)) + 1)) (lines + 1) (withSymbol held (a .k)) ps′ qs′
-      unfolding withAdded
-      symbol-came b = rw b at came-after
-
-      pub clause-came : a .symbol ≡ false → Came F base job (at + (length (firstLine (P .rest)) + 1)) (lines + 1) (withClause held (a .start) (a .literals) (a .width) (a .inputs)) ps′ qs′
-      unfolding withAdded
-      clause-came b = rw b at came-after
-
-      pub symbol-room : a .symbol ≡ true → held .symbols < maxSymbols
-      symbol-room b = let R = symbol-came b .reached .holds in omega (arith, symbols-within R, R .counts-room)
-
 -- What is known of a line once its number is.
-pub record LineRead (F : Figures) (base job : List ℕ) (at lines : ℕ) (held : code.HeldState) (ps qs bytes : List ℕ) (s : Seen) (n : ℕ) : Type 0 where
+pub record LineRead (F : Figures) (base job : List ℕ) (at lines : ℕ) (held : code.HeldState) (k : Kept) (bytes : List ℕ) (s : Seen) (n : ℕ) : Type 0 where
   pub figures : UpToOffice F
   pub small : tooLarge F base ≡ false
   pub some : 0 < length (partAt base job at)
-  pub ahead : Ahead F base job at lines held ps qs
+  pub ahead : Ahead F base job at lines held k
   pub is : bytes ≡ firstLine (ahead .rest)
   pub number : n ≡ failure (ahead .reached .st) (readLine (F .depth) (firstLine (ahead .rest)))
-  pub added : n ≡ 0 → (a : Added) → Adds at (held .inputs) (s .line) a →
-      Represents (F .depth) (partAt base job) (withAdded held a) (after (ahead .reached .st) (readLine (F .depth) (firstLine (ahead .rest))))
-  pub parents : n ≡ 0 → (p : Parents) → p ≡ parentsBy (s .line .rule) (s .line .a) (s .line .b) →
-      Parented (after (ahead .reached .st) (readLine (F .depth) (firstLine (ahead .rest)))) (set ps (held .clauses) (p .a)) (set qs (held .clauses) (p .b))
+  pub kept : n ≡ 0 → (a : Added) → Adds at (held .inputs) (s .line) a → (p : Parents) → p ≡ parentsAt (s .line) →
+      let st = after (ahead .reached .st) (readLine (F .depth) (firstLine (ahead .rest))) in
+      Represents (F .depth) (partAt base job) (withAdded held a) st × Keeps st (keptWith k (held .clauses) p a)
 
-pub came-as : {F : Figures} {base job : List ℕ} {p q lines next-lines : ℕ} {held next : code.HeldState} {ps qs : List ℕ} → Came F base job p lines held ps qs →
-    q ≡ p → next-lines ≡ lines → next ≡ held → Came F base job q next-lines next ps qs
+pub came-as : {F : Figures} {base job : List ℕ} {p q lines next-lines : ℕ} {held next : code.HeldState} {k : Kept} → Came F base job p lines held k →
+    q ≡ p → next-lines ≡ lines → next ≡ held → Came F base job q next-lines next k
 came-as P e l f = rw (e, l, f) P

@@ -1,26 +1,22 @@
 // The answer to a text, or to a base and a job: the lines are read and judged one after the other, and where none fails the clauses are
 // counted.
 
-use descent::used_parents;
-use logic::Judged;
 use meaning::Answer;
 use meaning::Verdict;
 use outcome::finish;
 use outcome::first_empty;
-use reader::forms::LineAt;
-use reader::forms::STEP;
-use reader::forms::form_number;
-use rules::steps::Size;
-use rules::steps::judge;
 use source::first_line;
 use source::part_at;
 use source::too_large;
-use state::Seen;
 use state::adds;
 use state::constant_held;
 use state::fresh;
 use state::see;
-use state::slot;
+use state::with_clause;
+use state::with_symbol;
+use step::failing;
+use step::parents;
+use step::seam;
 use text::BYTES;
 use text::DEPTH;
 use text::Figures;
@@ -29,99 +25,13 @@ ghost use Prim.Native.Nat.{_+_, _≤_, min};
 ghost use mathlib.Core.Path.{_≡_};
 ghost use mathlib.Core.Bool.{false};
 ghost use mathlib.Core.List.{[]};
-ghost use lib.ListN.{take};
-ghost use Rattle.logic.specs.StepChecks.{judgedNumber};
 ghost use Rattle.text.specs.Figures.{office, UpToOffice};
-ghost use Rattle.text.specs.Size.{partAt};
 ghost use Rattle.meaning.specs.Checks.{tooLarge};
 ghost use Rattle.meaning.specs.Means.{Means, named};
 ghost use Rattle.meaning.specs.Answer.{verdict, rests, jointly};
 ghost use Rattle.meaning.specs.Guarantee.{Guarantee};
 ghost use Rattle.meaning.specs.Job.{JobMeans, JobGuarantee};
-ghost use Rattle.verdict.specs.Running.{JudgesRead, FirstFailing, seamFailure, Answers};
-
-// What the reading holds of a clause: its place, its number of literals and its width.
-struct HeldClause {
-    start: u16,
-    literals: u8,
-    width: u8,
-}
-
-fn held(start: u16, literals: u8, width: u8) -> HeldClause
-    ensures { λ r. ⌜ r ≡ record { start = start; literals = literals; width = width } ⌝ }
-{
-    HeldClause {
-        start,
-        literals,
-        width,
-    }
-}
-
-// The number of the check of 7 to 11 that fails, or 0.
-fn number(j: Judged) -> usize
-    ensures { λ r. ⌜ r ≡ judgedNumber j ⌝ }
-{
-    match j {
-        Judged::Passed => 0,
-        Judged::NoParent => 7,
-        Judged::WrongNumber => 8,
-        Judged::Misshapen => 9,
-        Judged::Disagrees => 10,
-        Judged::WrongClaim => 11,
-    }
-}
-
-// Checks 7 to 11 of a step, by what the reading holds of its parents.
-fn judged<'a>(
-    depth: u8,
-    base: &'a [u8],
-    job: &'a [u8],
-    own: usize,
-    a: HeldClause,
-    b: HeldClause,
-    line: &[u8],
-    l: LineAt,
-) -> Judged
-    ensures { λ r. ⌜ JudgesRead depth (partAt (now (base .entry)) (now (job .entry))) own a b (now (line .entry)) l r ⌝ }
-{
-    let of_a = Size {
-        literals: a.literals as usize,
-        width: a.width as usize,
-    };
-    let of_b = Size {
-        literals: b.literals as usize,
-        width: b.width as usize,
-    };
-    let p = part_at(base, job, a.start as usize);
-    let q = part_at(base, job, b.start as usize);
-    judge(depth, own, p, of_a, q, of_b, line, l)
-}
-
-// The first failing check of 2 to 11 of a line, or 0: a step is judged by the clauses before it.
-fn failing<'a>(
-    depth: u8,
-    base: &'a [u8],
-    job: &'a [u8],
-    own: usize,
-    a: HeldClause,
-    b: HeldClause,
-    line: &[u8],
-    seen: Seen,
-) -> usize
-    ensures { λ r. ⌜ FirstFailing depth (partAt (now (base .entry)) (now (job .entry))) own a b (now (line .entry)) seen r ⌝ }
-{
-    let failure = seen.failure;
-    if failure != 0 {
-        return failure;
-    }
-    let l = seen.line;
-    let f = l.form;
-    let form = form_number(f);
-    if form != STEP {
-        return 0;
-    }
-    number(judged(depth, base, job, own, a, b, line, l))
-}
+ghost use Rattle.verdict.specs.Running.{Answers};
 
 // How far two texts reach: one byte further than a text may, where they are longer.
 fn reach(base: usize, job: usize) -> usize
@@ -134,36 +44,9 @@ fn reach(base: usize, job: usize) -> usize
     base + job
 }
 
-// What fails at a place, so many lines after the beginning, where the base ends and the job begins: 4 where the base has no constant, 1
-// where the two are too large together, or 0. Nothing fails at other places.
-fn seam(
-    figures: Figures,
-    counts: &[u8],
-    symbols: usize,
-    base: usize,
-    at: usize,
-    lines: usize,
-    job: &[u8],
-) -> usize
-    requires { ⌜ (base ≤ figures .bytes) × (lines ≤ figures .lines) ⌝ }
-    ensures { λ r. ⌜ r ≡ seamFailure figures (take symbols (now (counts .entry))) base at lines (now (job .entry)) ⌝ }
-{
-    if at != base {
-        return 0;
-    }
-    if !constant_held(counts, symbols) {
-        return 4;
-    }
-    let left = Figures {
-        bytes: figures.bytes - base,
-        lines: figures.lines - lines,
-        depth: figures.depth,
-    };
-    if too_large(job, left) { 1 } else { 0 }
-}
-
-// The lines of the base and then those of the job, one after the other, up to the first that fails. The state is written in place: a line
-// moves none of it. The inputs on which a refutation rests are marked in rests, where nothing is marked before.
+// The lines of the base and then those of the job, one after the other, up to the first that fails. The state is handed on and comes back
+// after each line; beside it the loop keeps of each clause the parents that it uses, its number of literals and its width. The inputs on
+// which a refutation rests are marked in rests, where nothing is marked before.
 fn read_on<'a>(
     base: &'a [u8],
     job: &'a [u8],
@@ -177,6 +60,8 @@ fn read_on<'a>(
     let mut state = fresh();
     let mut used_a = [0u16; LINES];
     let mut used_b = [0u16; LINES];
+    let mut literals = [0u8; LINES];
+    let mut widths = [0u8; LINES];
     let mut at = 0;
     let mut lines = 0;
     while at < whole {
@@ -189,30 +74,32 @@ fn read_on<'a>(
         let clauses = state.clauses;
         let inputs = state.inputs;
         let seen = see(figures, &state.counts, symbols, clauses, inputs, bytes);
-        let l = seen.line;
-        let n = slot(l.a);
-        let a = held(state.starts[n], state.literals[n], state.widths[n]);
-        let m = slot(l.b);
-        let b = held(state.starts[m], state.literals[m], state.widths[m]);
-        let number = failing(figures.depth, base, job, clauses, a, b, bytes, seen);
+        let number = failing(
+            figures.depth,
+            base,
+            job,
+            &state.starts,
+            &literals,
+            &widths,
+            clauses,
+            bytes,
+            seen,
+        );
         let line = lines + 1;
         if number != 0 {
             return Verdict::Refused { number, line };
         }
-        let rule = l.rule;
-        let used = used_parents(rule, l.a, l.b);
+        let l = seen.line;
+        let used = parents(l);
+        let added = adds(at, inputs, l);
         used_a[clauses] = used.a;
         used_b[clauses] = used.b;
-        let added = adds(at, inputs, l);
+        literals[clauses] = added.literals;
+        widths[clauses] = added.width;
         if added.symbol {
-            state.counts[symbols] = added.k;
-            state.symbols = symbols + 1;
+            state = with_symbol(state, added.k);
         } else {
-            state.starts[clauses] = added.start;
-            state.literals[clauses] = added.literals;
-            state.widths[clauses] = added.width;
-            state.clauses = clauses + 1;
-            state.inputs = added.inputs;
+            state = with_clause(state, added.start, added.inputs);
         }
         at += bytes.len() + 1;
         lines = line;
@@ -220,7 +107,7 @@ fn read_on<'a>(
     let constant = constant_held(&state.counts, state.symbols);
     let count = state.clauses;
     let inputs = state.inputs;
-    let first = first_empty(&state.literals, count);
+    let first = first_empty(&literals, count);
     finish(constant, count, first, inputs, &used_a, &used_b, rests)
 }
 

@@ -1,22 +1,39 @@
 use denote.Ref.{now}
-use mathlib.Core.Path.{refl, _∙_, ap}
+use mathlib.Core.Path.{refl}
 use native.Mathlib.Omega.{arith}
-use Rattle.reader.specs.LineAt.{shortLine}
-use Rattle.reader.specs.Summary.{joined}
-use Rattle.reader.specs.declared.forms.Form.the-variants.{NoForm}
-use Rattle.reader.proofs.LineParts.{line-whole, line-broken, step-track}
+use Rattle.reader.proofs.LineParts.{line-whole, line-broken, StepTrack, step-track}
 use Rattle.reader.proofs.forms.step_line.Statement.{statement}
 use Rattle.reader.proofs.forms.step_line.Tie as tie
 
+-- Where the last bracket was looked for, all parts have been read, each where the one before it ended.
+track : (c : tie.After-word4) →
+    let claim = c .before .before .before in
+    let second = claim .before .before .before in
+    let first = second .before .before .before in
+    let k = first .before .before in
+    let a = k .before .before .before .before in
+    let x = a .before .before .before .before .args in
+    StepTrack (now (x .table)) (now (x .s)) (x .at) (x .depth) (a .before .rule .result) (a .spaced .result) (k .before .before .before .spaced2 .result) (k .before .before .spaced3 .result) (k .before .spaced4 .result) (k .spaced5 .result)
+    (first .word .result) (second .before .before .list .result) (second .word2 .result) (claim .before .before .list2 .result) (claim .word3 .result) (c .before .before .clause .result) (c .word4 .result)
+track c =
+    let claim = c .before .before .before in
+    let second = claim .before .before .before in
+    let first = second .before .before .before in
+    let k = first .before .before in
+    let a = k .before .before .before .before in
+    let x = a .before .before .before .before .args in
+    step-track (now (x .table)) (now (x .s)) (x .at) (x .depth) (a .before .rule .ensures .0) (a .spaced .ensures) (k .before .before .before .spaced2 .ensures) (k .before .before .spaced3 .ensures) (k .before .spaced4 .ensures) (k .spaced5 .ensures)
+    (first .word .ensures .0) (second .before .before .list .ensures) (second .word2 .ensures .0) (claim .before .before .list2 .ensures) (claim .word3 .ensures .0) (c .before .before .clause .ensures) (c .word4 .ensures .0)
+
 returns : tie.Need-returns
-returns c = let a = (c .before .before .before .before .before .before .before .before .before .before .before .before .before .before .before .before .before .before .before .before .before .before .args) in let s = now (a .s) in let table = now (a .table) in (c .short) .ensures ∙ ap (shortLine NoForm 0 0 0) ((c .before .none) .ensures) ∙ line-broken table s (step-track table s (a .at) (a .depth) ((c .before .before .before .before .before .before .before .before .before .before .before .before .before .before .before .before .before .before .before .rule) .ensures .0) ((c .before .before .before .before .before .before .before .before .before .before .before .before .before .before .before .before .before .before .spaced) .ensures) ((c .before .before .before .before .before .before .before .before .before .before .before .before .before .before .before .before .before .spaced2) .ensures) ((c .before .before .before .before .before .before .before .before .before .before .before .before .before .before .before .before .spaced3) .ensures) ((c .before .before .before .before .before .before .before .before .before .before .before .before .before .before .before .spaced4) .ensures) ((c .before .before .before .before .before .before .before .before .before .before .before .before .before .before .spaced5) .ensures) ((c .before .before .before .before .before .before .before .before .before .before .before .before .word) .ensures .0) ((c .before .before .before .before .before .before .before .before .before .before .before .list) .ensures) ((c .before .before .before .before .before .before .before .before .before .word2) .ensures .0) ((c .before .before .before .before .before .before .before .before .list2) .ensures) ((c .before .before .before .before .before .before .word3) .ensures .0) ((c .before .before .before .before .before .clause) .ensures) ((c .before .before .before .word4) .ensures .0) refl) ((c .before .before .if1) .taken)
+returns c = line-broken _ _ (track (c .before)) (c .if1 .taken)
 
 returns-2 : tie.Need-returns-2
-returns-2 c = let a = (c .before .before .before .before .before .before .before .before .before .before .before .before .before .before .before .before .before .before .before .before .before .before .before .before .before .args) in let s = now (a .s) in let table = now (a .table) in line-whole table s (step-track table s (a .at) (a .depth) ((c .before .before .before .before .before .before .before .before .before .before .before .before .before .before .before .before .before .before .before .before .before .before .rule) .ensures .0) ((c .before .before .before .before .before .before .before .before .before .before .before .before .before .before .before .before .before .before .before .before .before .spaced) .ensures) ((c .before .before .before .before .before .before .before .before .before .before .before .before .before .before .before .before .before .before .before .before .spaced2) .ensures) ((c .before .before .before .before .before .before .before .before .before .before .before .before .before .before .before .before .before .before .before .spaced3) .ensures) ((c .before .before .before .before .before .before .before .before .before .before .before .before .before .before .before .before .before .before .spaced4) .ensures) ((c .before .before .before .before .before .before .before .before .before .before .before .before .before .before .before .before .before .spaced5) .ensures) ((c .before .before .before .before .before .before .before .before .before .before .before .before .before .before .before .word) .ensures .0) ((c .before .before .before .before .before .before .before .before .before .before .before .before .before .before .list) .ensures) ((c .before .before .before .before .before .before .before .before .before .before .before .before .word2) .ensures .0) ((c .before .before .before .before .before .before .before .before .before .before .before .list2) .ensures) ((c .before .before .before .before .before .before .before .before .before .word3) .ensures .0) ((c .before .before .before .before .before .before .before .before .clause) .ensures) ((c .before .before .before .before .before .before .word4) .ensures .0) ((c .join2) .ensures ∙ ap (joined _) ((c .before .join) .ensures))) (omega (arith, (c .before .before .before .before .before .if1) .left))
+returns-2 c = line-whole _ _ (track (c .before .before .before .before)) (omega (arith, c .before .before .before .if1 .left))
 
 pub step-line-spec : {M : Type 1} → statement M
 step-line-spec =
     tie.close (tie.spec
     (λ c κs. tt) (λ c κs. tt) (λ c κs. tt) (λ c κs. tt) (λ c κs. tt) (λ c κs. tt) (λ c. refl) (λ c κs. tt)
     (λ c κs. tt) (λ c. refl) (λ c κs. tt) (λ c κs. tt) (λ c. refl) (λ c κs. tt) (λ c κs. tt) (λ c. refl) (λ c κs. tt)
-    (λ c κs. tt) (λ c κs. tt) returns (λ c κs. tt) (λ c κs. tt) returns-2)
+    returns returns-2)

@@ -15,9 +15,9 @@ use Rattle.reader.proofs.terms.terms.Reads as terms
 use Rattle.reader.proofs.terms.terms.Kinds as terms-kinds
 use Rattle.reader.proofs.terms.+terms.Lts-terms as terms-lts
 use Rattle.scan.proofs.numbers.number.Reads as number-reads
-use Rattle.reader.proofs.summaries.join.Reads as join-reads
-use Rattle.reader.proofs.summaries.none.Reads as none-reads
-use Rattle.reader.proofs.summaries.recount.Reads as recount-reads
+use Rattle.reader.proofs.measures.join.Reads as join-reads
+use Rattle.reader.proofs.measures.none.Reads as none-reads
+use Rattle.reader.proofs.measures.recount.Reads as recount-reads
 use Rattle.reader.proofs.summaries.settle.Reads as settle-reads
 use Rattle.reader.proofs.terms.applied.Reads as applied-reads
 use Rattle.reader.proofs.terms.variable.Reads as variable-reads

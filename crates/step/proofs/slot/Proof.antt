@@ -1,7 +1,7 @@
 use borrow.Author.Tests.{lt-ltb, le-ltb}
-use Rattle.state.specs.ReadLine.{slotOf}
-use Rattle.state.proofs.slot.Statement.{statement}
-use Rattle.state.proofs.slot.Tie as tie
+use Rattle.step.specs.Step.{slotOf}
+use Rattle.step.proofs.slot.Statement.{statement}
+use Rattle.step.proofs.slot.Tie as tie
 
 returns : tie.Need-returns
 unfolding slotOf

@@ -1,6 +1,6 @@
 use Rattle.reader.specs.Summary.{joined}
-use Rattle.reader.proofs.summaries.join.Statement.{statement}
-use Rattle.reader.proofs.summaries.join.Tie as tie
+use Rattle.reader.proofs.measures.join.Statement.{statement}
+use Rattle.reader.proofs.measures.join.Tie as tie
 
 returns : tie.Need-returns
 unfolding joined

@@ -1,8 +1,8 @@
--- `verdict::number` meets its contract.
+-- `step::number` meets its contract.
 use Rattle.logic.specs.StepChecks.{judgedNumber}
 use borrow.Author.Needs.{needs}
-use Rattle.verdict.proofs.number.Statement.{statement}
-use Rattle.verdict.proofs.number.Tie as tie
+use Rattle.step.proofs.number.Statement.{statement}
+use Rattle.step.proofs.number.Tie as tie
 
 returns : tie.Need-returns
 unfolding judgedNumber
