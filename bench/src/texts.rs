@@ -41,11 +41,13 @@ impl Family {
     /// The ratio to stay within.
     pub fn goal(self) -> f64 {
         match self {
-            Family::Ordinary => 0.7,
-            Family::LongParent => 0.6,
-            Family::FilledParent => 1.2,
-            Family::Short => 1.5,
-            Family::Facts | Family::Reflexive => 0.8,
+            Family::Ordinary => 0.75,
+            Family::LongParent | Family::Facts => 0.6,
+            Family::FilledParent => 1.75,
+            Family::Short => 1.3,
+            Family::Reflexive => 0.8,
+            Family::Corpus => 1.25,
+            Family::Refutation => 0.9,
             _ => 1.0,
         }
     }

@@ -78,5 +78,5 @@ int main(int count, char **arguments) {
         word = fcheck_check(text, length, &first, &second, rests, sizeof rests);
     }
     status = print_answer(word, first, second);
-    return fflush(stdout) == 0 ? status : fail("the answer", "written");
+    return fflush(stdout) == 0 && !ferror(stdout) ? status : fail("the answer", "written");
 }

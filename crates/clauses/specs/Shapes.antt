@@ -5,10 +5,12 @@ use mathlib.Core.Bool.{Bool, cond, not, _&&_, _||_}
 use mathlib.Core.List.{List}
 use lib.Dec.{leb}
 use lib.ListN.{length, drop}
+use Rattle.logic.specs.declared.Link.{Link}
 use Rattle.text.specs.Words.{bytes}
+use Rattle.text.specs.Heads.{head, linkKind}
 use Rattle.text.specs.Read.{strip}
 use Rattle.text.specs.Places.{endOf}
-use Rattle.text.specs.Access.{skipItem, toItem, toArgument, places}
+use Rattle.text.specs.Access.{skipItem, toItem, toArgument, toOccurrence, places}
 
 -- Past these bytes, past an item, past an item and a space, at argument k.
 unfoldable pub stripAt : List ℕ → List ℕ → ℕ → ℕ
@@ -23,9 +25,13 @@ nextAt p at = stripAt p (bytes " ") (skipAt p at)
 unfoldable pub argumentAt : List ℕ → ℕ → ℕ → ℕ
 argumentAt p at k = endOf p (toArgument k (drop at p))
 
+-- T16, "`(or LIT ...)` is the clause of these literals": where the literals of the clause that p begins with begin.
+abbrev pub literalsAt : List ℕ → ℕ
+literalsAt p = stripAt p (bytes "(or") 0
+
 -- T17, "Positions in a clause .. are numbered from 0": the place of literal n of the clause that p begins with.
 unfoldable pub placeAt : List ℕ → ℕ → ℕ
-placeAt p n = endOf p (toItem n (drop (stripAt p (bytes "(or") 0) p))
+placeAt p n = endOf p (toItem n (drop (literalsAt p) p))
 
 -- The atom of a positive literal, of a negative one.
 unfoldable pub positiveAt : List ℕ → ℕ → ℕ
@@ -59,6 +65,29 @@ valueAt p o =
 -- The object of a positive arrow atom with one of two heads.
 unfoldable pub objectAt : List ℕ → List ℕ → List ℕ → ℕ → ℕ
 objectAt p v w at = orPlace p (stripAt p v (positiveAt p at)) (stripAt p w (positiveAt p at))
+
+-- T14, "sv is a scalar value, si an inheritable scalar value", "st a scalar signature, mt a set signature": the object of a positive one.
+abbrev pub scalarAt : List ℕ → ℕ → ℕ
+scalarAt p at = objectAt p (bytes "(sv ") (bytes "(si ") at
+
+abbrev pub signatureAt : List ℕ → ℕ → ℕ
+signatureAt p at = objectAt p (bytes "(st ") (bytes "(mt ") at
+
+-- T13, "`(obj T)` is T[]": the term of a negative one.
+abbrev pub deniedAt : List ℕ → ℕ → ℕ
+deniedAt p at = stripAt p (bytes "(- (obj ") at
+
+-- Argument k of an arrow atom whose object begins at o: after object and method.
+abbrev pub methodArgumentAt : List ℕ → ℕ → ℕ → ℕ
+methodArgumentAt p o k = argumentAt p (nextAt p (nextAt p o)) k
+
+-- The first term of a positive eq, mem or sub (T13).
+abbrev pub linkAt : List ℕ → Link → ℕ → ℕ
+linkAt p l at = firstAt p (head (linkKind l)) at
+
+-- R20, "counted from 0 in the literal at I": term occurrence k of the item at `at`.
+abbrev pub occurrenceAt : List ℕ → ℕ → ℕ → ℕ
+occurrenceAt p at k = endOf p (toOccurrence k (drop at p))
 
 -- The places of the entries of the list that begins at `at`.
 unfoldable pub listAt : List ℕ → ℕ → List ℕ

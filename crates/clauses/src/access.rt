@@ -5,7 +5,8 @@ ghost use mathlib.Core.Path.{_≡_};
 ghost use lib.ListN.{length, drop};
 ghost use Rattle.clauses.specs.Nearer.{tallied, Nearer};
 ghost use Rattle.text.specs.Places.{endOf};
-ghost use Rattle.text.specs.Access.{skipItem, passItem, toItem, opening, toArgument, places, entryOf, beginsTerm, toOccurrence};
+ghost use Rattle.text.specs.Access.{skipItem, entryOf, beginsTerm};
+ghost use Rattle.clauses.specs.Shapes.{occurrenceAt};
 
 // Bytes that are looked at together.
 const STRIDE: usize = 16;
@@ -132,7 +133,7 @@ fn term(s: &[u8], at: usize) -> bool
 
 // The place of term occurrence k in the item that begins at `at`.
 pub fn occurrence(s: &[u8], at: usize, k: usize) -> usize
-    ensures { λ r. ⌜ r ≡ endOf (now (s .entry)) (toOccurrence k (drop at (now (s .entry)))) ⌝ }
+    ensures { λ r. ⌜ r ≡ occurrenceAt (now (s .entry)) at k ⌝ }
     ensures { λ _. ⌜ now (s .exit) ≡ now (s .entry) ⌝ }
 {
     let mut i = word(s, at, b"(");

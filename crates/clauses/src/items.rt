@@ -4,7 +4,7 @@ use scan::words::word;
 ghost use mathlib.Core.Path.{_≡_};
 ghost use lib.ListN.{drop};
 ghost use Rattle.text.specs.Places.{endOf};
-ghost use Rattle.text.specs.Access.{skipItem, passItem, toItem, opening, toArgument, places, entryOf, beginsTerm, toOccurrence};
+ghost use Rattle.text.specs.Access.{passItem, toItem, opening, toArgument, places};
 
 // Entries of a list.
 const ENTRIES: usize = 32;

@@ -4,16 +4,16 @@ use crate::items::PLACES;
 use crate::items::argument as listed;
 use crate::items::item;
 use crate::items::starts;
+use choices::both;
+use choices::either;
+use choices::equal;
 use logic::Link;
 use scan::words::word;
 ghost use mathlib.Core.Path.{_≡_};
-ghost use mathlib.Core.Bool.{_&&_, _||_};
-ghost use Rattle.text.specs.Heads.{head, linkKind};
-ghost use Rattle.text.specs.Words.{bytes};
-ghost use Rattle.clauses.specs.Shapes.{stripAt, nextAt, argumentAt, placeAt, positiveAt, negativeAt, firstAt};
-ghost use Rattle.clauses.specs.Shapes.{orPlace, ifPlace, resultAt, valueAt, objectAt, listAt};
+ghost use Rattle.clauses.specs.Shapes.{nextAt, placeAt, positiveAt, negativeAt, firstAt, linkAt, deniedAt};
+ghost use Rattle.clauses.specs.Shapes.{orPlace, ifPlace, resultAt, valueAt, methodArgumentAt, objectAt, scalarAt, signatureAt, listAt};
 ghost use Rattle.clauses.specs.Shapes.{within as withinAt};
-ghost use Rattle.clauses.specs.Shapes.{sameSignAt, atomAt, sameArrowAt, equalTests};
+ghost use Rattle.clauses.specs.Shapes.{sameSignAt, atomAt, sameArrowAt};
 
 // A place of the clause.
 pub fn within(clause: &[u8], at: usize) -> bool
@@ -21,24 +21,6 @@ pub fn within(clause: &[u8], at: usize) -> bool
     ensures { λ _. ⌜ now (clause .exit) ≡ now (clause .entry) ⌝ }
 {
     at <= clause.len()
-}
-
-pub fn both(x: bool, y: bool) -> bool
-    ensures { λ r. ⌜ r ≡ x && y ⌝ }
-{
-    if x { y } else { false }
-}
-
-fn either(x: bool, y: bool) -> bool
-    ensures { λ r. ⌜ r ≡ x || y ⌝ }
-{
-    if x { true } else { y }
-}
-
-fn equal(x: bool, y: bool) -> bool
-    ensures { λ r. ⌜ r ≡ equalTests x y ⌝ }
-{
-    if x { y } else { !y }
 }
 
 // Literal n of the clause.
@@ -116,7 +98,7 @@ fn first(clause: &[u8], head: &[u8], at: usize) -> usize
 
 // The first term of a positive eq, mem or sub.
 pub fn link(clause: &[u8], kind: Link, at: usize) -> usize
-    ensures { λ r. ⌜ r ≡ firstAt (now (clause .entry)) (head (linkKind kind)) at ⌝ }
+    ensures { λ r. ⌜ r ≡ linkAt (now (clause .entry)) kind at ⌝ }
     ensures { λ _. ⌜ now (clause .exit) ≡ now (clause .entry) ⌝ }
 {
     match kind {
@@ -128,7 +110,7 @@ pub fn link(clause: &[u8], kind: Link, at: usize) -> usize
 
 // The term of a negative obj.
 pub fn denied(clause: &[u8], at: usize) -> usize
-    ensures { λ r. ⌜ r ≡ stripAt (now (clause .entry)) (bytes "(- (obj ") at ⌝ }
+    ensures { λ r. ⌜ r ≡ deniedAt (now (clause .entry)) at ⌝ }
     ensures { λ _. ⌜ now (clause .exit) ≡ now (clause .entry) ⌝ }
 {
     word(clause, at, b"(- (obj ")
@@ -153,7 +135,7 @@ pub fn value(clause: &[u8], object: usize) -> usize
 
 // Argument n of an arrow atom whose object begins at `object`.
 pub fn argument(clause: &[u8], object: usize, n: usize) -> usize
-    ensures { λ r. ⌜ r ≡ argumentAt (now (clause .entry)) (nextAt (now (clause .entry)) (nextAt (now (clause .entry)) object)) n ⌝ }
+    ensures { λ r. ⌜ r ≡ methodArgumentAt (now (clause .entry)) object n ⌝ }
     ensures { λ _. ⌜ now (clause .exit) ≡ now (clause .entry) ⌝ }
 {
     listed(clause, next(clause, next(clause, object)), n)
@@ -169,7 +151,7 @@ fn object(clause: &[u8], head: &[u8], other: &[u8], at: usize) -> usize
 
 // The object of a positive sv or si.
 pub fn scalar(clause: &[u8], at: usize) -> usize
-    ensures { λ r. ⌜ r ≡ objectAt (now (clause .entry)) (bytes "(sv ") (bytes "(si ") at ⌝ }
+    ensures { λ r. ⌜ r ≡ scalarAt (now (clause .entry)) at ⌝ }
     ensures { λ _. ⌜ now (clause .exit) ≡ now (clause .entry) ⌝ }
 {
     object(clause, b"(sv ", b"(si ", at)
@@ -177,7 +159,7 @@ pub fn scalar(clause: &[u8], at: usize) -> usize
 
 // The object of a positive st or mt.
 pub fn signature(clause: &[u8], at: usize) -> usize
-    ensures { λ r. ⌜ r ≡ objectAt (now (clause .entry)) (bytes "(st ") (bytes "(mt ") at ⌝ }
+    ensures { λ r. ⌜ r ≡ signatureAt (now (clause .entry)) at ⌝ }
     ensures { λ _. ⌜ now (clause .exit) ≡ now (clause .entry) ⌝ }
 {
     object(clause, b"(st ", b"(mt ", at)

@@ -4,6 +4,7 @@ ghost use Prim.Native.Nat.{_<_};
 ghost use Rattle.io.specs.Counts.{Counts};
 use libc::STDERR_FILENO;
 use meaning::Answer;
+use print::ROOM;
 
 fn wide(x: u8) -> usize
     ensures { λ r. ⌜ r < 256 ⌝ }
@@ -18,7 +19,8 @@ fn length_of(b: &[u8; 4]) -> usize {
 
 // Prints an answer, and answers whether all was written.
 fn print(a: Answer) -> bool {
-    let done = console::print(a);
+    let mut lines = [0u8; ROOM];
+    let done = console::print(a, &mut lines);
     if !done {
         io::write_all(STDERR_FILENO, b"corpus: standard output can't be written\n");
     }

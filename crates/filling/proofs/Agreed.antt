@@ -1,25 +1,25 @@
 -- When items of two written literals agree: exactly when what stands there is equal, filled.
-use Prim.Native.Nat.{ℕ, zero, suc, _+_, _-_, _≤_, _<_}
+use Prim.Native.Nat.{ℕ, suc, _+_, _-_, _≤_}
 use mathlib.Core.Bool.{Bool, true, false}
-use mathlib.Core.List.{List, [], _∷_}
+use mathlib.Core.List.{List, []}
 use mathlib.Core.Logic.{_↔_}
-use mathlib.Core.Path.{_≡_, refl, sym, ap, subst, _∙_}
+use mathlib.Core.Path.{_≡_, refl, sym, ap, _∙_}
 use native.Mathlib.Omega.{arith}
 use borrow.Author.Tests.{le-leb, lt-leb}
-use lib.Dec.{T, leb}
+use lib.Dec.{T}
 use lib.ListN.{length, drop}
 use Rattle.logic.specs.Syntax.{Term, Terms, Atom}
 use Rattle.logic.specs.Terms.{termsOf}
 use Rattle.logic.specs.Each.{atomOver, termWidth, termsWidth}
 use Rattle.logic.specs.Fill.{Substitution, fill, fills, fillAtom}
-use Rattle.text.specs.Write.{Writer, putTerm, putArguments, putAtom}
+use Rattle.text.specs.Write.{putTerm, putArguments, putAtom}
 use Rattle.text.specs.Form.{formedNumber, numbered, numbereds, formedTerm, formedTerms, formedAtom}
 use Rattle.text.specs.Read.{Parsed, bad, got}
 use Rattle.text.proofs.Unique.{term-unique, arguments-unique}
 use Rattle.text.proofs.Deep.{formedSymbol}
 use Rattle.text.proofs.Trees.{Tree, putTree, Clean, Within, Below, treeTerm, treeArguments, treeAtom, put-term, put-arguments, put-atom, clean-term, clean-arguments, clean-atom, within-term, within-arguments, within-atom}
 use Rattle.filling.specs.Filled.{plain, ground, sameItem, endsOf, itemDepth}
-use Rattle.filling.specs.Agree.{standsAt, agreeAt}
+use Rattle.filling.specs.Agree.{agreeAt}
 use Rattle.filling.proofs.Alike.{Fills, term-fills, same-tree, same-only}
 use Rattle.filling.proofs.Filling.{fillTree, trees, tree-term, tree-arguments, tree-atom}
 use Rattle.filling.proofs.Grounds.{Entries, no-width, ground-tree, stands-there, stands-only}

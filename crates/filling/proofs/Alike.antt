@@ -1,29 +1,27 @@
 -- What `sameItem` gives: on any bytes, equal filled bytes; on written forms, that the filled forms are the same.
 use Prim.Native.Nat.{ℕ, zero, suc, _+_, _-_, _≤_, _<_}
 use mathlib.Core.Path.{_≡_, refl, sym, _∙_, ap}
-use mathlib.Core.Bool.{Bool, true, false, not, cond}
+use mathlib.Core.Bool.{not}
 use mathlib.Core.List.{List, [], _∷_, _++_, append-nil}
 use native.Mathlib.Omega.{arith}
 use lib.Dec.{T, eqb, T-not, eqb→eq}
 use lib.ListN.{length}
-use borrow.Author.Tests.{ne-eqb, eq-eqb}
-use Rattle.logic.specs.Syntax.{Term, Terms, Atom}
-use Rattle.logic.specs.Terms.{termsOf}
-use Rattle.logic.specs.Each.{termWidth, termsWidth}
-use Rattle.logic.specs.Fill.{Substitution, fill, fills, fillAtom}
-use Rattle.text.specs.Write.{putNumber, putTerm, putArguments, putAtom}
-use Rattle.text.specs.Form.{formedNumber, formedTerm, formedTerms, formedAtom}
-use Rattle.text.specs.Read.{Parsed, bad, got, Reader, andThen, oneOf, strip, digit}
+use borrow.Author.Tests.{eq-eqb}
+use Rattle.logic.specs.Fill.{Substitution}
+use Rattle.text.specs.Write.{putNumber, putTerm}
+use Rattle.text.specs.Form.{formedNumber}
+use Rattle.text.specs.Read.{Parsed, bad, got, Reader, andThen, strip, digit}
 use Rattle.text.specs.Access.{closing, skipItem}
 use Rattle.text.proofs.Tests.{onTest}
 use Rattle.text.proofs.Gives.{Gives, nothing, gives, given, weaken, bind, strip-gives, none, branch, oneOf-meets}
 use Rattle.text.proofs.Number.{number-complete}
-use Rattle.text.proofs.Trees.{Tree, var, node, Trees, end, byte, part, putTree, putInside, Clean, CleanIn, Within, WithinIn, Below, treeTerm, treeArguments, treeAtom, put-term, put-arguments, put-atom, clean-term, clean-arguments, clean-atom, within-term, within-arguments, within-atom}
+use Rattle.text.proofs.Trees.{Tree, var, node, Trees, end, byte, part, putTree, putInside, Clean, CleanIn, Within, WithinIn, Below, put-term}
 use Rattle.text.proofs.Nesting.{inner-tests}
 use Rattle.filling.specs.Filled.{Filler, prefixed, insideUpTo, inside, readIndex, indexed, instead, fillItem, matches, along, nothingLeft, both, turned, sameItem}
-use Rattle.filling.proofs.Filling.{fillTree, fillTrees, tree-longer, not-variable, Clear, after-it, fill-tree, trees, tree-term, tree-arguments, tree-atom}
+use Rattle.filling.proofs.Filling.{fillTree, fillTrees, tree-longer, not-variable, after-it, fill-tree, trees}
 use Rattle.filling.proofs.Walk.{Pair, inside-open, inside-close, inside-on, fill-shrinks, fill-variable, fill-bracket}
-use Rattle.filling.proofs.Sameness.{variable, same-first, same-second, same-nested, turned-gives}
+use Rattle.filling.proofs.Items.{variable}
+use Rattle.filling.proofs.Sameness.{same-first, same-second, same-nested, turned-gives}
 
 strip-self : (w : List ℕ) → strip w w ≡ got tt []
 unfolding strip

@@ -1,33 +1,23 @@
 -- The answers of the comparing functions, from the places that they found.
 use Prim.Native.Nat.{ℕ, _+_, _-_, _≤_, _<_}
-use mathlib.Core.Path.{_≡_, refl, sym, _∙_, ap}
+use mathlib.Core.Path.{_≡_, refl, sym, ap}
 use mathlib.Core.List.{List, [], _∷_}
 use mathlib.Core.Logic.{_⊎_, inl, inr}
 use borrow.Author.Tests.{le-leb, lt-leb}
 use native.Mathlib.Omega.{arith}
 use lib.ListN.{length, take, drop, length-drop, drop-of-length-le}
 use Rattle.scan.specs.declared.numbers.NumberAt.{NumberAt}
-use Rattle.text.specs.Read.{Parsed, bad, got, Reader, andThen, strip, readNumber}
+use Rattle.text.specs.Read.{Parsed, bad, got, andThen, strip, readNumber}
 use Rattle.text.specs.Places.{endOf, readOr}
 use Rattle.text.specs.Access.{skipItem}
 use Rattle.scan.specs.Numbers.{numberAt}
 use Rattle.text.proofs.Gives.{Gives, nothing, gives, given}
 use Rattle.text.proofs.Number.{number-sound}
 use Rattle.text.proofs.Plain.{number-plain}
-use Rattle.text.proofs.Positions.{End, Tail, missing, there, end-trans, end-drop, strip-tail, skip-tail, sound-tail}
-use Rattle.filling.specs.declared.compare.Ends.{Ends}
+use Rattle.text.proofs.Positions.{End, missing, there, end-trans, end-drop, strip-tail, skip-tail, sound-tail}
 use Rattle.filling.specs.Filled.{readIndex, indexed, itself, matches, endsOf, endsAt}
 use Rattle.filling.proofs.Walk.{le-or-lt, skip-shrinks}
-
-pub ends-at : (p t : List ℕ) (i j : ℕ) {whole : Parsed (List ℕ)} → i ≤ length p → j ≤ length t → whole ≡ got (drop j t) (drop i p) → record { at = i; pos = j } ≡ endsOf p t whole
-unfolding endsOf
-ends-at p t i j h k e =
-    let a : i ≡ length p - length (drop i p) = omega (arith, length-drop i p) in
-    let b : j ≡ length t - length (drop j t) = omega (arith, length-drop j t) in
-    rw e (λ x. record { at = a x; pos = b x })
-
-pub ends-bad : (p t : List ℕ) {e : Ends} {whole : Parsed (List ℕ)} → e ≡ endsOf p t bad → whole ≡ bad → e ≡ endsOf p t whole
-ends-bad p t e w = rw w e
+use Rattle.filling.proofs.Loops.{ends-at}
 
 -- A variable's number and the bracket behind it.
 pub data Indexed (entry : ℕ → List ℕ) (p : List ℕ) (at v end : ℕ) : Type 0 where

@@ -1,25 +1,22 @@
 -- What filling in bytes gives on written forms.
 use Prim.Native.Nat.{ℕ, zero, suc, _+_, _-_, _≤_, _<_}
-use mathlib.Core.Path.{_≡_, refl, sym, _∙_, ap}
-use mathlib.Core.Bool.{Bool, true, false, not, cond}
-use mathlib.Core.List.{List, [], _∷_, _++_, append-assoc, append-nil}
-use mathlib.Core.Logic.{⊎-elim, inl, inr}
+use mathlib.Core.Path.{_≡_, refl, _∙_}
+use mathlib.Core.Bool.{false, not}
+use mathlib.Core.List.{List, [], _∷_, _++_, append-assoc}
 use native.Mathlib.Omega.{arith}
 use lib.Dec.{T, eqb, T-not}
 use lib.ListN.{length, length-append}
 use borrow.Author.Tests.{ne-eqb}
-use Rattle.logic.specs.declared.Sign.{Sign}
 use Rattle.logic.specs.Syntax.{Term, var as variable, app, Terms, nil, cons, Result, value, none, Atom, link, obj, method, Literal, lit}
-use Rattle.logic.specs.Terms.{termsOf}
-use Rattle.logic.specs.Each.{termWidth, termsWidth}
+use Rattle.logic.specs.Each.{termWidth}
 use Rattle.logic.specs.Fill.{Substitution, fill, fills, fillResult, fillAtom, fillLiteral}
 use Rattle.text.specs.Words.{bytes}
-use Rattle.text.specs.Write.{word, putNumber, putTerm, putAtom, putLiteral}
-use Rattle.text.specs.Form.{formedNumber, formedTerm, formedAtom}
-use Rattle.text.specs.Read.{Parsed, bad, got, Reader, andThen, oneOf, strip, readNumber, digit}
+use Rattle.text.specs.Write.{putTerm}
+use Rattle.text.specs.Form.{formedNumber, formedTerm}
+use Rattle.text.specs.Read.{bad, got, Reader, andThen, oneOf, strip, digit}
 use Rattle.text.proofs.Number.{number-complete}
 use Rattle.text.proofs.Plain.{number-plain, in-front, put-grows}
-use Rattle.text.proofs.Trees.{Tree, var, node, Trees, end, byte, part, putTree, putInside, opens, Clean, CleanIn, Within, WithinIn, numberBytes, texts, Below, treeTerm, treeTerms, treeArguments, treeResult, treeAtom, treeLiteral, put-term, put-atom, put-literal, clean-term, clean-atom, clean-literal, within-term, within-atom, within-literal}
+use Rattle.text.proofs.Trees.{Tree, var, node, Trees, end, byte, part, putTree, putInside, opens, Clean, CleanIn, Within, WithinIn, numberBytes, texts, Below, treeTerm, treeTerms, treeArguments, treeResult, treeAtom, treeLiteral, put-term, clean-term, within-term}
 use Rattle.text.proofs.Nesting.{inner-tests}
 use Rattle.filling.specs.Filled.{Filler, prefixed, insideUpTo, inside, readIndex, indexed, fillItem}
 
@@ -149,16 +146,10 @@ module _ (σ : Substitution) where
   unfolding fillTree treeLiteral fillLiteral
   tree-literal (lit g x) = rw (fill-texts, tree-atom x)
 
--- The filled bytes of a written term, atom or literal, where the list has the entries of the variables below w and the hole stands elsewhere.
+-- The filled bytes of a written term, where the list has the entries of the variables below w and the hole stands elsewhere.
 module _ (f : Filler) (σ : Substitution) (w d : ℕ) (entry : (n : ℕ) → n < w → f .entry n ≡ putTerm (σ n) []) where
   given-entry : (n : ℕ) → Below w n → f .entry n ≡ putTree (treeTerm (σ n)) []
   given-entry n h = entry n (h .1) ∙ put-term (σ n) []
 
   pub fill-term : (t : Term) → T (formedTerm d t) → termWidth t ≤ w → (rest : List ℕ) → Clear (f .hole) (length rest) (length (putTerm t rest)) → fillItem f d (putTerm t rest) ≡ got (putTerm (fill σ t) []) rest
   fill-term t k h rest c = rw (put-term t rest, put-term (fill σ t) [], ← tree-term σ t) (fill-tree f (trees σ) (Below w) (λ n p. p .0) given-entry (treeTerm t) d (clean-term t) (within-term w t d k h) rest (rw put-term at c))
-
-  pub fill-atom : (x : Atom) → T (formedAtom d x) → termsWidth (termsOf x) ≤ w → (rest : List ℕ) → Clear (f .hole) (length rest) (length (putAtom x rest)) → fillItem f (suc (suc d)) (putAtom x rest) ≡ got (putAtom (fillAtom σ x) []) rest
-  fill-atom x k h rest c = rw (put-atom x rest, put-atom (fillAtom σ x) [], ← tree-atom σ x) (fill-tree f (trees σ) (Below w) (λ n p. p .0) given-entry (treeAtom x) (suc (suc d)) (clean-atom x) (within-atom w d x k h) rest (rw put-atom at c))
-
-  pub fill-literal : (g : Sign) (x : Atom) → T (formedAtom d x) → termsWidth (termsOf x) ≤ w → (rest : List ℕ) → Clear (f .hole) (length rest) (length (putLiteral (lit g x) rest)) → fillItem f (suc (suc (suc d))) (putLiteral (lit g x) rest) ≡ got (putLiteral (fillLiteral σ (lit g x)) []) rest
-  fill-literal g x k h rest c = rw (put-literal (lit g x) rest, put-literal (fillLiteral σ (lit g x)) [], ← tree-literal σ (lit g x)) (fill-tree f (trees σ) (Below w) (λ n p. p .0) given-entry (treeLiteral (lit g x)) (suc (suc (suc d))) (clean-literal (lit g x)) (within-literal w d g x k h) rest (rw put-literal at c))

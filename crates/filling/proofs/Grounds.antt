@@ -1,12 +1,12 @@
 -- Items of written forms, filled by a list of the line; without places, an item is its own filled form.
-use Prim.Native.Nat.{ℕ, zero, suc, _+_, _-_, _≤_, _<_}
+use Prim.Native.Nat.{ℕ, zero, suc, _+_, _-_, _<_}
 use mathlib.Core.Bool.{Bool, true, false, cond}
 use mathlib.Core.List.{List, [], _∷_, _++_}
 use mathlib.Core.Path.{_≡_, refl, sym, ap, ap₂, subst, _∙_}
 use native.Mathlib.Omega.{arith}
 use borrow.Author.Tests.{le-leb, lt-leb, eqb-true}
-use lib.Dec.{T, eqb}
-use lib.ListN.{length, take, drop, length-append}
+use lib.Dec.{T}
+use lib.ListN.{length, take, length-append}
 use lib.Seq.{take-at}
 use Rattle.logic.specs.Fill.{Substitution}
 use Rattle.text.specs.Write.{putTerm}
@@ -15,7 +15,7 @@ use Rattle.text.specs.Access.{skipItem, entryOf}
 use Rattle.text.proofs.Gives.{Gives, nothing, gives, strip-gives}
 use Rattle.text.proofs.Heads.{strip-same}
 use Rattle.text.proofs.Nesting.{skip-tree}
-use Rattle.text.proofs.Trees.{Tree, var, node, Trees, end, byte, part, putTree, putInside, Clean, Within, WithinIn, Below, treeTerm, put-term}
+use Rattle.text.proofs.Trees.{Tree, var, node, Trees, end, byte, part, putTree, Clean, Within, WithinIn, Below, treeTerm, put-term}
 use Rattle.filling.specs.Filled.{fillItem, plain, ground, itself, filledBy, matches, endsOf, itemDepth}
 use Rattle.filling.specs.Agree.{standsAt}
 use Rattle.filling.proofs.Filling.{fillTree, fillTrees, tree-front, tree-longer, after-it, fill-tree, trees}

@@ -1,22 +1,22 @@
 -- A term occurrence of a written literal: where it stands in the bytes, and filling with another term in its place.
 use Prim.Native.Nat.{ℕ, zero, suc, _+_, _-_, _≤_, _<_}
-use mathlib.Core.Path.{_≡_, refl, sym, _∙_, ap}
-use mathlib.Core.Bool.{Bool, true, false, not, cond, _&&_, _||_}
+use mathlib.Core.Path.{_≡_, refl, sym, _∙_}
+use mathlib.Core.Bool.{Bool, true, false, cond, _&&_}
 use mathlib.Core.List.{List, [], _∷_, _++_}
 use native.Mathlib.Omega.{arith}
 use lib.Dec.{T, eqb}
 use lib.ListN.{length}
-use borrow.Author.Tests.{ne-eqb, eq-eqb, eqb-false}
-use Rattle.text.specs.Write.{Writer, word, putNumber}
+use borrow.Author.Tests.{ne-eqb, eqb-false}
+use Rattle.text.specs.Write.{Writer}
 use Rattle.text.specs.Form.{formedNumber}
-use Rattle.text.specs.Read.{Parsed, bad, got, Reader, andThen, strip}
-use Rattle.text.specs.Access.{skipItem, stood, beginsTerm, seek, toOccurrence}
+use Rattle.text.specs.Read.{Parsed, bad, got, strip}
+use Rattle.text.specs.Access.{stood, beginsTerm, seek}
 use Rattle.text.proofs.Tests.{onTest}
 use Rattle.text.proofs.Plain.{number-plain, in-front}
-use Rattle.text.proofs.Trees.{Tree, var, node, Trees, end, byte, part, putTree, putInside, Inner, inner, Clean, CleanIn, Within, WithinIn, within-more, within-in-more, numberBytes, number-inner}
+use Rattle.text.proofs.Trees.{Tree, var, node, Trees, end, byte, part, putTree, putInside, Inner, inner, Clean, CleanIn, Within, WithinIn, numberBytes, number-inner}
 use Rattle.text.proofs.Nesting.{inner-tests, skip-tree}
 use Rattle.filling.specs.Filled.{Filler, prefixed, insideUpTo, inside, instead, fillItem}
-use Rattle.filling.proofs.Filling.{fillTree, fillTrees, tree-front, tree-longer, inside-grows, inside-part, not-variable, Clear, after-it, before-it, narrow, fill-tree, fill-inside}
+use Rattle.filling.proofs.Filling.{fillTree, fillTrees, tree-front, tree-longer, inside-grows, inside-part, not-variable, after-it, before-it, fill-tree, fill-inside}
 use Rattle.filling.proofs.Walk.{fill-hole, fill-bracket, inside-on}
 use Rattle.filling.proofs.Alike.{no-variable}
 

@@ -1,10 +1,11 @@
 pub mod Filling
 pub mod Walk
+pub mod Loops
 pub mod Answers
 pub mod Expected
 pub mod Sameness
 pub mod Grounds
-pub mod Inside
+pub mod Items
 pub mod Claiming
 pub mod Claimed
 pub mod Alike

@@ -11,7 +11,6 @@ use Rattle.logic.specs.Syntax.{Term, Terms, cons, Result, value, Atom, link, me
 use Rattle.logic.specs.Terms.{termsOf}
 use Rattle.logic.specs.Each.{termsWidth}
 use Rattle.logic.specs.Fill.{Substitution, fill, fills, fillResult}
-use Rattle.logic.specs.Rules.{Placed}
 use Rattle.text.specs.Words.{bytes, signWord, linkWord, arrowWord}
 use Rattle.text.specs.Write.{Writer, word, putTerm, putTerms, putArguments, putResult, putLiteral}
 use Rattle.text.specs.Form.{formedAtom}
@@ -42,11 +41,6 @@ module _ (σ : Substitution) (u : Term) where
   unfoldable pub replaced : {t : Term} {k : ℕ} {ts more : Terms} → Argument t k ts more → Terms
   replaced (first {ts}) = cons u (fills σ ts)
   replaced (next {a} p) = cons (fill σ a) (replaced p)
-
-  pub replaced-placed : {t : Term} {k : ℕ} {ts more : Terms} (p : Argument t k ts more) → Placed u k (fill σ t) (fills σ ts) (replaced p)
-  unfolding replaced fills
-  replaced-placed first = Placed.here
-  replaced-placed (next p) = Placed.there (replaced-placed p)
 
   spots-argument : {t : Term} {k : ℕ} {ts more : Terms} (p : Argument t k ts more) → spotIn (trees σ) (treeTerm u) (spot-of p) ≡ found (treeTerm t) (putInside (treeTerms more)) (treeTerms (replaced p))
   unfolding spot-of spotIn mapFound turn replaced treeTerms fillTrees

@@ -1,20 +1,20 @@
 -- What `same` finds, at each place where it answers.
 use mathlib.Core.Logic.{_⊎_, inl, inr}
-use Prim.Native.Nat.{ℕ, zero, suc, _+_, _-_, _≤_, _<_}
-use mathlib.Core.Path.{_≡_, refl, sym, _∙_, ap}
+use Prim.Native.Nat.{ℕ, zero, suc, _-_, _≤_, _<_}
+use mathlib.Core.Path.{_≡_, refl, _∙_}
 use mathlib.Core.List.{List, [], _∷_}
 use native.Mathlib.Omega.{arith}
 use lib.Dec.{eqb}
-use lib.ListN.{length, drop, getD, length-drop, drop-of-length-le}
+use lib.ListN.{length, drop, length-drop, drop-of-length-le}
 use Rattle.text.specs.Read.{Parsed, bad, got, Reader, andThen, orElse, strip}
 use Rattle.text.specs.Places.{endOf}
-use Rattle.text.specs.Access.{entryOf}
 use Rattle.text.proofs.Tests.{onTest}
 use Rattle.text.proofs.Gives.{Gives, nothing, gives, weaken, bind}
-use Rattle.text.proofs.Positions.{missing, there, End, Tail, end-refl, end-trans, end-cons, strip-tail}
+use Rattle.text.proofs.Positions.{word-there, word-missing, End, end-refl, end-trans, end-cons, strip-tail}
 use Rattle.filling.specs.declared.compare.Ends.{Ends}
-use Rattle.filling.specs.Filled.{Filler, indexed, fillItem, plain, matches, endsOf, along, nothingLeft, both, turned, sameItem}
-use Rattle.filling.proofs.Walk.{Less, Shrinks, less-cons, less-end, index-tail, fill-shrinks, byte-here, Pair, Both, Shortens, matching, Landed, missed, landed, Going, le-or-lt, lost}
+use Rattle.filling.specs.Filled.{Filler, indexed, fillItem, matches, endsOf, along, nothingLeft, both, turned, sameItem}
+use Rattle.filling.proofs.Walk.{Less, less-cons, less-end, index-tail, fill-shrinks, Pair, Shortens, matching, Landed, missed, landed, le-or-lt}
+use Rattle.filling.proofs.Items.{variable}
 use Rattle.filling.proofs.Answers.{Indexed, without, index}
 
 -- The steps.
@@ -133,61 +133,34 @@ ends-turned p q x h = rw h (go x)
     go bad = refl
     go (got left rest) = refl
 
--- A call of `same`.
-pub record Call : Type 0 where
-  pub p : List ℕ
-  pub at : ℕ
-  pub line : List ℕ
-  pub starts : List ℕ
-  pub q : List ℕ
-  pub pos : ℕ
-  pub others : List ℕ
-  pub depth : ℕ
+-- Where `same` answers.
+abbrev pub alike : Filler → Filler → List ℕ → List ℕ → ℕ → ℕ → ℕ → Parsed (List ℕ)
+alike f g p q d at pos = sameItem f g d (drop at p) (drop pos q)
 
-abbrev pub item : Call → ℕ → Pair
-item x d = sameItem (plain (x .line) (x .starts)) (plain (x .line) (x .others)) d
+module _ (f g : Filler) (p q : List ℕ) (d at pos : ℕ) (deep : d ≡ 0 → ⊥) where
+  pub at-first : {k : ℕ} → k ≡ endOf p (strip variable (drop at p)) → k ≤ length p → alike f g p q d at pos ≡ both (indexed (f .entry) (drop k p)) (fillItem g d (drop pos q))
+  at-first e l = same-first f g d _ _ (omega arith) (word-there p at variable e l)
 
-abbrev pub all : Call → Parsed (List ℕ)
-all x = item x (x .depth) (drop (x .at) (x .p)) (drop (x .pos) (x .q))
+  module _ {x : ℕ} (u : x ≡ endOf p (strip variable (drop at p))) (v : length p < x) where
+    pub at-second : {k : ℕ} → k ≡ endOf q (strip variable (drop pos q)) → k ≤ length q → alike f g p q d at pos ≡ turned (both (indexed (g .entry) (drop k q)) (fillItem f d (drop at p)))
+    at-second e l = same-second f g _ _ (word-missing p at variable u v) d (omega arith) (word-there q pos variable e l)
 
-abbrev pub Loop : Call → ℕ → ℕ → Type 0
-Loop x i j = Going (item x (x .depth - 1)) (x .p) (x .q) (all x) i j
+    module _ {y : ℕ} (u′ : y ≡ endOf q (strip variable (drop pos q))) (w : length q < y) {i j : ℕ} (e : i ≡ endOf p (strip (40 ∷ []) (drop at p))) (h : j ≡ endOf q (strip (40 ∷ []) (drop pos q))) where
+      nested : alike f g p q d at pos ≡ andThen (strip (40 ∷ []) (drop at p)) (λ _ cs. andThen (strip (40 ∷ []) (drop pos q)) (λ _ ds. along (sameItem f g (d - 1)) (length cs) cs ds))
+      nested = same-nested f g _ _ (word-missing p at variable u v) d (omega arith) (word-missing q pos variable u′ w)
 
-abbrev pub variable : List ℕ
-variable = 40 ∷ 118 ∷ 32 ∷ []
+      -- No bracket in the second, and one there.
+      pub no-second : length q < j → alike f g p q d at pos ≡ bad
+      no-second m = nested ∙ rw (word-missing q pos (40 ∷ []) h m) (go (strip (40 ∷ []) (drop at p)))
+        where
+          go : (z : Parsed (Unit {0})) → _≡_ {A = Parsed (List ℕ)} (andThen z (λ _ cs. bad)) bad
+          go bad = refl
+          go (got u cs) = refl
 
-module _ (x : Call) (d : 0 < x .depth) where
-  pub at-first : {first : ℕ} → first ≡ endOf (x .p) (strip variable (drop (x .at) (x .p))) → first ≤ length (x .p) → all x ≡ both (indexed (entryOf (x .line) (x .starts)) (drop first (x .p))) (fillItem (plain (x .line) (x .others)) (x .depth) (drop (x .pos) (x .q)))
-  unfolding plain
-  at-first e l = same-first _ _ (x .depth) _ _ d (there (x .p) (x .at) (strip-tail variable) (rw (← e) l) .1) ∙ rw e
-
-  module _ (v : length (x .p) < endOf (x .p) (strip variable (drop (x .at) (x .p)))) where
-    pub at-second : {second : ℕ} → second ≡ endOf (x .q) (strip variable (drop (x .pos) (x .q))) → second ≤ length (x .q) → all x ≡ turned (both (indexed (entryOf (x .line) (x .others)) (drop second (x .q))) (fillItem (plain (x .line) (x .starts)) (x .depth) (drop (x .at) (x .p))))
-    unfolding plain
-    at-second e l = same-second _ _ _ _ (missing (x .p) (x .at) (strip-tail variable) v) (x .depth) d (there (x .q) (x .pos) (strip-tail variable) (rw (← e) l) .1) ∙ rw e
-
-    module _ (w : length (x .q) < endOf (x .q) (strip variable (drop (x .pos) (x .q)))) where
-      nested : all x ≡ andThen (strip (40 ∷ []) (drop (x .at) (x .p))) (λ _ cs. andThen (strip (40 ∷ []) (drop (x .pos) (x .q))) (λ _ ds. along (item x (x .depth - 1)) (length cs) cs ds))
-      nested = same-nested _ _ _ _ (missing (x .p) (x .at) (strip-tail variable) v) (x .depth) d (missing (x .q) (x .pos) (strip-tail variable) w)
-
-      no-first : length (x .p) < endOf (x .p) (strip (40 ∷ []) (drop (x .at) (x .p))) → all x ≡ bad
-      no-first h = nested ∙ rw (missing (x .p) (x .at) (strip-tail (40 ∷ [])) h)
-
-      module _ {i j : ℕ} (e : i ≡ endOf (x .p) (strip (40 ∷ []) (drop (x .at) (x .p)))) (f : j ≡ endOf (x .q) (strip (40 ∷ []) (drop (x .pos) (x .q)))) where
-        opened : i ≤ length (x .p) → all x ≡ andThen (strip (40 ∷ []) (drop (x .pos) (x .q))) (λ _ ds. along (item x (x .depth - 1)) (length (drop i (x .p))) (drop i (x .p)) ds)
-        opened l = nested ∙ rw (there (x .p) (x .at) (strip-tail (40 ∷ [])) (rw (← e) l) .1, ← e)
-
-        -- No bracket in the second, and one there.
-        pub no-second : length (x .q) < j → all x ≡ bad
-        no-second h = go (le-or-lt i (length (x .p)))
-          where
-            go : (i ≤ length (x .p)) ⊎ (length (x .p) < i) → all x ≡ bad
-            go (inl l) = opened l ∙ rw (missing (x .q) (x .pos) (strip-tail (40 ∷ [])) (rw (← f) h))
-            go (inr l) = no-first (rw (← e) l)
-
-        pub enters : j ≤ length (x .q) → Loop x i j
-        enters m = go (le-or-lt i (length (x .p)))
-          where
-            go : (i ≤ length (x .p)) ⊎ (length (x .p) < i) → Loop x i j
-            go (inl l) = record { steps = length (drop i (x .p)); enough = omega (arith, length-drop i (x .p)); left = opened l ∙ rw (there (x .q) (x .pos) (strip-tail (40 ∷ [])) (rw (← f) m) .1, ← f) }
-            go (inr l) = lost (x .p) (x .q) i j (omega arith) (no-first (rw (← e) l))
+      pub opens : j ≤ length q → alike f g p q d at pos ≡ along (sameItem f g (d - 1)) (length (drop i p)) (drop i p) (drop j q)
+      unfolding along
+      opens m = nested ∙ rw (word-there q pos (40 ∷ []) h m) (go (le-or-lt i (length p)))
+        where
+          go : (i ≤ length p) ⊎ (length p < i) → andThen (strip (40 ∷ []) (drop at p)) (λ _ cs. along (sameItem f g (d - 1)) (length cs) cs (drop j q)) ≡ along (sameItem f g (d - 1)) (length (drop i p)) (drop i p) (drop j q)
+          go (inl l) = rw (word-there p at (40 ∷ []) e l)
+          go (inr l) = rw (word-missing p at (40 ∷ []) e l, drop-of-length-le p {i = i} (omega arith))

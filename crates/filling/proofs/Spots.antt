@@ -1,18 +1,17 @@
 -- The hole at a given item of a written literal: its object, one of its arguments, its result, or a term of a link.
-use Prim.Native.Nat.{ℕ, zero, suc, _+_, _-_, _≤_, _<_}
-use mathlib.Core.Path.{_≡_, refl, sym, _∙_, ap}
-use mathlib.Core.List.{List, [], _∷_, _++_}
+use Prim.Native.Nat.{ℕ, zero, suc, _-_, _≤_}
+use mathlib.Core.Path.{_≡_, refl}
+use mathlib.Core.List.{List, [], _∷_}
 use lib.Dec.{T}
-use lib.ListN.{length}
 use Rattle.logic.specs.declared.Sign.{Sign}
 use Rattle.text.specs.Words.{bytes, signWord}
 use Rattle.text.specs.Write.{Writer}
 use Rattle.text.specs.Form.{formedNumber}
-use Rattle.text.specs.Read.{Parsed, bad, got}
-use Rattle.text.proofs.Trees.{Tree, var, node, Trees, end, byte, part, putTree, putInside, texts, put-texts, Clean, CleanIn, Within, WithinIn}
-use Rattle.filling.specs.Filled.{Filler, fillItem}
+use Rattle.text.specs.Read.{got}
+use Rattle.text.proofs.Trees.{Tree, var, node, Trees, end, byte, part, putTree, putInside, texts, Clean, CleanIn, Within, WithinIn}
+use Rattle.filling.specs.Filled.{Filler}
 use Rattle.filling.proofs.Filling.{fillTree, fillTrees}
-use Rattle.filling.proofs.Holes.{Found, past, found, mapFound, turn, findTrees, Held, HeldIn, Good, GoodIn, hole-inside, whole-held, node-held, byte-held, later-held, part-held, stack, within-stack, within-in-stack}
+use Rattle.filling.proofs.Holes.{Found, past, found, mapFound, turn, findTrees, Good, GoodIn, hole-inside, whole-held, node-held, byte-held, later-held, part-held, stack, within-stack, within-in-stack}
 
 -- A spot in a tree, and in what stands in a bracket.
 mutual

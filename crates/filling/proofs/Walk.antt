@@ -1,23 +1,21 @@
--- Walking over an item while its filled bytes are matched: the steps of `fillItem`, where it ends, and the loop over the inside.
+-- Walking over an item while its filled bytes are matched: the steps of `fillItem`, of the inside, and where it ends.
 use mathlib.Core.Logic.{_⊎_, inl, inr}
 use Prim.Native.Nat.{ℕ, zero, suc, _+_, _-_, _≤_, _<_}
-use mathlib.Core.Path.{_≡_, refl, sym, _∙_, ap, ap₂}
+use mathlib.Core.Path.{_≡_, refl, sym, _∙_, ap₂}
 use mathlib.Core.Bool.{Bool, true, false, cond}
 use mathlib.Core.List.{List, [], _∷_, _++_}
-use native.Mathlib.Decide.{ℕ-discrete}
 use native.Mathlib.Omega.{arith}
-use lib.Dec.{T, eqb, leb}
-use lib.ListN.{length, drop, getD, length-drop, drop-of-length-le}
+use lib.Dec.{eqb, leb}
+use lib.ListN.{length, drop, length-drop, drop-of-length-le}
 use borrow.Author.Tests.{eq-eqb, ne-eqb, leb-true, leb-false}
-use Rattle.text.specs.Read.{Parsed, bad, got, Reader, andThen, _>>=_, _>>_, oneOf, strip, readNumber}
+use Rattle.text.specs.Read.{Parsed, bad, got, Reader, andThen, oneOf, strip}
 use Rattle.text.specs.Places.{endOf}
 use Rattle.text.specs.Access.{skipItem}
 use Rattle.text.proofs.Tests.{onTest}
-use Rattle.text.proofs.Gives.{Gives, nothing, gives, given, weaken, bind, strip-gives, none, branch, oneOf-meets}
+use Rattle.text.proofs.Gives.{Gives, nothing, gives, weaken, bind, none, branch, oneOf-meets}
 use Rattle.text.proofs.Number.{number-sound}
 use Rattle.text.proofs.Plain.{number-plain}
-use Rattle.text.proofs.Places.{at-byte}
-use Rattle.text.proofs.Positions.{End, Tail, end-refl, end-trans, end-cons, end-drop, strip-tail, sound-tail, and-tail, skip-tail, closing-tail, there, missing}
+use Rattle.text.proofs.Positions.{End, Tail, end-refl, end-trans, end-cons, end-drop, strip-tail, sound-tail, closing-tail}
 use Rattle.filling.specs.declared.compare.Ends.{Ends}
 use Rattle.filling.specs.Filled.{Filler, prefixed, insideUpTo, inside, readIndex, indexed, instead, fillItem, matches, endsOf, along}
 
@@ -59,20 +57,6 @@ le-or-lt a b = go (leb a b) refl
     go : (t : Bool) → leb a b ≡ t → (a ≤ b) ⊎ (b < a)
     go true e = inl (leb-true a b e)
     go false e = inr (leb-false a b e)
-
--- One byte of a text.
-module _ (b : ℕ) (t : List ℕ) (j : ℕ) where
-  pub byte-here : j < length t → getD t j 0 ≡ b → strip (b ∷ []) (drop j t) ≡ got tt (drop (j + 1) t)
-  unfolding strip
-  byte-here h e = rw (at-byte t j h, eq-eqb b (getD t j 0) (sym e))
-
-  pub byte-none : length t ≤ j → strip (b ∷ []) (drop j t) ≡ bad
-  unfolding strip
-  byte-none h = rw (drop-of-length-le t h)
-
-  pub byte-other : j < length t → (getD t j 0 ≡ b → ⊥) → strip (b ∷ []) (drop j t) ≡ bad
-  unfolding strip
-  byte-other h e = rw (at-byte t j h, ne-eqb b (getD t j 0) (λ q. e (sym q)))
 
 -- A word that stands at a place stands within the text.
 pub somewhere : (p : List ℕ) (at b : ℕ) (w : List ℕ) → endOf p (strip (b ∷ w) (drop at p)) ≤ length p → at < length p
@@ -213,11 +197,6 @@ module _ {item : Pair} (s : Shortens item) (p t : List ℕ) (i j : ℕ) where
   pub land : {e : Ends} → e ≡ endsOf p t (item (drop i p) (drop j t)) → Landed item p t i j e
   land q = rw q (land-item refl (s .shortens (drop i p) (drop j t)))
 
--- What was matched ends behind its beginning.
-pub beyond : {item : Pair} {p t : List ℕ} {i j : ℕ} {e : Ends} → Landed item p t i j e → i < length p → i < e .at
-beyond (missed m o k) h = omega arith
-beyond (landed a n o k) h = n
-
 -- The steps of an inside.
 module _ (item : Reader (List ℕ)) (k b : ℕ) (bs : List ℕ) where
   pub inside-open : b ≡ 40 → insideUpTo item (suc k) (b ∷ bs) ≡ andThen (item (b ∷ bs)) (λ w rest. prefixed w (insideUpTo item k rest))
@@ -234,15 +213,15 @@ module _ (item : Reader (List ℕ)) (k b : ℕ) (bs : List ℕ) where
 
 -- The steps of two insides.
 module _ (item : Pair) (k b : ℕ) (ps ts : List ℕ) where
-  along-open : b ≡ 40 → along item (suc k) (b ∷ ps) ts ≡ andThen (item (b ∷ ps) ts) (λ left rest. along item k rest left)
+  pub along-open : b ≡ 40 → along item (suc k) (b ∷ ps) ts ≡ andThen (item (b ∷ ps) ts) (λ left rest. along item k rest left)
   unfolding along
   along-open e = rw e
 
-  along-close : b ≡ 41 → along item (suc k) (b ∷ ps) ts ≡ andThen (strip (41 ∷ []) ts) (λ _ left. got left ps)
+  pub along-close : b ≡ 41 → along item (suc k) (b ∷ ps) ts ≡ andThen (strip (41 ∷ []) ts) (λ _ left. got left ps)
   unfolding along
   along-close e = rw e
 
-  along-on : (b ≡ 40 → ⊥) → (b ≡ 41 → ⊥) → along item (suc k) (b ∷ ps) ts ≡ andThen (strip (b ∷ []) ts) (λ _ left. along item k ps left)
+  pub along-on : (b ≡ 40 → ⊥) → (b ≡ 41 → ⊥) → along item (suc k) (b ∷ ps) ts ≡ andThen (strip (b ∷ []) ts) (λ _ left. along item k ps left)
   unfolding along
   along-on o c = rw (ne-eqb b 41 c, ne-eqb b 40 o)
 
@@ -273,64 +252,3 @@ inside-along item (suc k) (b ∷ ps) ts =
     matches-cond (eqb b 41) _ _ ts
     ∙ ap₂ (cond (eqb b 41)) refl (matches-cond (eqb b 40) _ _ ts
     ∙ ap₂ (cond (eqb b 40)) (along-part item k (inside-along item k) (item (b ∷ ps)) ts) (matches-front (b ∷ []) (insideUpTo item k ps) ts ∙ along-on-both item k (inside-along item k) (strip (b ∷ []) ts) ps))
-
--- The loop over two insides: the whole is what is left, in enough steps.
-pub record Going (item : Pair) (p t : List ℕ) (all : Parsed (List ℕ)) (i j : ℕ) : Type 0 where
-  pub steps : ℕ
-  pub enough : length p - i ≤ steps
-  pub left : all ≡ along item steps (drop i p) (drop j t)
-
--- Past the end there is nothing.
-pub lost : {item : Pair} (p t : List ℕ) {all : Parsed (List ℕ)} (i j : ℕ) → length p ≤ i → all ≡ bad → Going item p t all i j
-unfolding along
-lost p t i j h e = record { steps = 0; enough = omega arith; left = e }
-
-module _ {item : Pair} (p t : List ℕ) {all : Parsed (List ℕ)} (i j : ℕ) (g : Going item p t all i j) where
-  pub going-end : length p ≤ i → all ≡ bad
-  unfolding along
-  going-end h = g .left ∙ rw (drop-of-length-le p h) (none (g .steps))
-    where
-      none : (k : ℕ) → along item k [] (drop j t) ≡ bad
-      none zero = refl
-      none (suc k) = refl
-
-  module _ (h : i < length p) where
-    more : suc (g .steps - 1) ≡ g .steps
-    more = omega (arith, g .enough)
-
-    stepped : all ≡ along item (suc (g .steps - 1)) (getD p i 0 ∷ drop (i + 1) p) (drop j t)
-    stepped = g .left ∙ rw (at-byte p i h, more)
-
-    opened : getD p i 0 ≡ 40 → all ≡ andThen (item (drop i p) (drop j t)) (λ left rest. along item (g .steps - 1) rest left)
-    opened b = stepped ∙ rw (along-open item (g .steps - 1) (getD p i 0) (drop (i + 1) p) (drop j t) b, ← at-byte p i h)
-
-    -- A nested item, found or not.
-    pub going-part : getD p i 0 ≡ 40 → {e : Ends} → Landed item p t i j e → Going item p t all (e .at) (e .pos)
-    going-part b {e} (missed m o k) = lost p t (e .at) (e .pos) (omega arith) (opened b ∙ rw m)
-    going-part b (landed a n o k) = record { steps = g .steps - 1; enough = omega (arith, g .enough); left = opened b ∙ rw a }
-
-    module _ (b : getD p i 0 ≡ 40 → ⊥) where
-      module _ {n : ℕ} (s : n ≡ endOf t (strip (getD p i 0 ∷ []) (drop j t))) where
-        there-it-is : n ≤ length t → strip (getD p i 0 ∷ []) (drop j t) ≡ got tt (drop n t)
-        there-it-is l = there t j (strip-tail (getD p i 0 ∷ [])) (rw (← s) l) .1 ∙ rw (← s)
-
-        pub going-closed : n ≤ length t → getD p i 0 ≡ 41 → all ≡ got (drop n t) (drop (i + 1) p)
-        going-closed l c = stepped ∙ rw (along-close item (g .steps - 1) (getD p i 0) (drop (i + 1) p) (drop j t) c, ← c, there-it-is l)
-
-        pub going-on : n ≤ length t → (getD p i 0 ≡ 41 → ⊥) → Going item p t all (i + 1) n
-        going-on l c = record { steps = g .steps - 1; enough = omega (arith, g .enough); left = stepped ∙ rw (along-on item (g .steps - 1) (getD p i 0) (drop (i + 1) p) (drop j t) b c, there-it-is l) }
-
-        pub never-on : length t < n → all ≡ bad
-        never-on l = stepped ∙ go (ℕ-discrete (getD p i 0) 41)
-          where
-            e : strip (getD p i 0 ∷ []) (drop j t) ≡ bad
-            e = missing t j (strip-tail (getD p i 0 ∷ [])) (rw (← s) l)
-
-            go : Dec (getD p i 0 ≡ 41) → along item (suc (g .steps - 1)) (getD p i 0 ∷ drop (i + 1) p) (drop j t) ≡ bad
-            go (yes c) = rw (along-close item (g .steps - 1) (getD p i 0) (drop (i + 1) p) (drop j t) c, ← c, e)
-            go (no c) = rw (along-on item (g .steps - 1) (getD p i 0) (drop (i + 1) p) (drop j t) b c, e)
-
--- A bracket of the filled item, and of the text.
-pub going-from : (item : Reader (List ℕ)) (p t : List ℕ) {all : Parsed (List ℕ)} (i pos j : ℕ) → all ≡ matches (prefixed (40 ∷ []) (inside item (drop i p))) (drop pos t) → strip (40 ∷ []) (drop pos t) ≡ got tt (drop j t) → Going (matching item) p t all i j
-unfolding inside
-going-from item p t i pos j e s = record { steps = length (drop i p); enough = omega (arith, length-drop i p); left = e ∙ matches-front (40 ∷ []) _ (drop pos t) ∙ rw s (inside-along item (length (drop i p)) (drop i p) (drop j t)) }

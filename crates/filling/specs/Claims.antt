@@ -9,7 +9,7 @@ use lib.ListN.{length, drop}
 use Rattle.text.specs.Words.{bytes}
 use Rattle.filling.specs.declared.compare.Ends.{Ends}
 use Rattle.filling.specs.Filled.{fillItem, replacing, filledBy, matches, endsOf, itemDepth, holeDepth}
-use Rattle.clauses.specs.Shapes.{stripAt, skipAt}
+use Rattle.clauses.specs.Shapes.{stripAt, skipAt, literalsAt}
 
 -- The item at `at` of p, filled by a list of the line, stands in the bytes `rest`: the place past it.
 unfoldable pub filledAt : ℕ → List ℕ → ℕ → List ℕ → List ℕ → List ℕ → ℕ → ℕ
@@ -54,4 +54,8 @@ othersFrom depth p dropped line starts rest (suc k) n at pos =
 
 -- All literals of a clause but one.
 unfoldable pub othersAt : ℕ → List ℕ → ℕ → ℕ → List ℕ → List ℕ → List ℕ → ℕ → ℕ
-othersAt depth p count dropped line starts rest pos = othersFrom depth p dropped line starts rest count 0 (stripAt p (bytes "(or") 0) pos
+othersAt depth p count dropped line starts rest pos = othersFrom depth p dropped line starts rest count 0 (literalsAt p) pos
+
+-- T9, "followed by the clause that it claims": past the claim and its line, which its last literal ends at.
+abbrev pub claimEnd : List ℕ → ℕ → ℕ
+claimEnd rest pos = stripAt rest (bytes "))") pos

@@ -8,7 +8,6 @@ use lib.ListN.{length, take, drop}
 use Rattle.text.specs.Read.{Parsed, bad, got, Reader, andThen, _>>=_, _>>_, return, Branch, _⇒_, orElse, oneOf, strip, skip, readNumber}
 use Rattle.text.specs.Access.{skipItem, entryOf}
 use Rattle.filling.specs.declared.compare.Ends.{Ends}
-use Rattle.filling.specs.declared.compare.Walk.{Walk}
 
 -- Bytes in front of what is read.
 unfoldable pub prefixed : List ℕ → Parsed (List ℕ) → Parsed (List ℕ)
@@ -122,13 +121,6 @@ sameItem f g (suc depth) ps qs =
     let nested = andThen (skip "(" ps) (λ _ cs. andThen (skip "(" qs) (λ _ ds. along (sameItem f g depth) (length cs) cs ds)) in
     let second = orElse (skip "(v " qs) (λ cs. turned (both (indexed (g .entry) cs) (fillItem f (suc depth) ps))) (λ _. nested) qs in
     orElse (skip "(v " ps) (λ cs. both (indexed (f .entry) cs) (fillItem g (suc depth) qs)) (λ _. second) ps
-
--- Where a comparison stands: with no item replaced; at an item inside.
-abbrev pub unbrokenAt : List ℕ → ℕ → ℕ → ℕ → Walk
-unbrokenAt p at pos depth = record { at = at; pos = pos; hole = length p; from = 0; depth = depth }
-
-abbrev pub nestedIn : Walk → ℕ → ℕ → ℕ → Walk
-nestedIn w at pos depth = record { at = at; pos = pos; hole = w .hole; from = w .from; depth = depth }
 
 -- "Terms nest at most 16 terms deep": where they nest at most so deep, the brackets of a literal are its own, its atom's, its arguments'
 -- and those of its terms.

@@ -12,9 +12,8 @@ use scan::words::word;
 ghost use mathlib.Core.Path.{_≡_};
 ghost use lib.Dec.{eqb};
 ghost use lib.ListN.{length};
-ghost use Rattle.text.specs.Words.{bytes};
-ghost use Rattle.clauses.specs.Shapes.{stripAt};
-ghost use Rattle.filling.specs.Claims.{filledAt, rewrittenAt, keptAt, othersAt, reflexiveAt, equatedAt};
+ghost use Rattle.clauses.specs.Shapes.{literalsAt};
+ghost use Rattle.filling.specs.Claims.{filledAt, rewrittenAt, keptAt, othersAt, reflexiveAt, equatedAt, claimEnd};
 
 // The term at `term` of the literal at `literal` of one clause is replaced by the one at `from` of another.
 pub struct Hole {
@@ -31,7 +30,7 @@ pub struct Terms {
 
 // The beginning of the claim.
 pub fn begin(rest: &[u8]) -> usize
-    ensures { λ r. ⌜ r ≡ stripAt (now (rest .entry)) (bytes "(or") 0 ⌝ }
+    ensures { λ r. ⌜ r ≡ literalsAt (now (rest .entry)) ⌝ }
     ensures { λ _. ⌜ now (rest .exit) ≡ now (rest .entry) ⌝ }
 {
     word(rest, 0, b"(or")
@@ -39,7 +38,7 @@ pub fn begin(rest: &[u8]) -> usize
 
 // Whether the claim ends at the place, and the line with it.
 pub fn ends(rest: &[u8], pos: usize) -> bool
-    ensures { λ r. ⌜ r ≡ eqb (stripAt (now (rest .entry)) (bytes "))") pos) (length (now (rest .entry))) ⌝ }
+    ensures { λ r. ⌜ r ≡ eqb (claimEnd (now (rest .entry)) pos) (length (now (rest .entry))) ⌝ }
     ensures { λ _. ⌜ now (rest .exit) ≡ now (rest .entry) ⌝ }
 {
     word(rest, pos, b"))") == rest.len()
@@ -118,7 +117,7 @@ pub fn others(
 pub fn reflexive(depth: u8, line: &[u8], list: &[usize], rest: &[u8]) -> usize
     ensures { λ r.
         ⌜ r ≡ reflexiveAt depth (now (line .entry)) (now (list .entry)) (now (rest .entry))
-        (stripAt (now (rest .entry)) (bytes "(or") 0) ⌝ }
+        (literalsAt (now (rest .entry))) ⌝ }
     ensures { λ _. ⌜ (now (line .exit) ≡ now (line .entry)) × (now (rest .exit) ≡ now (rest .entry)) ⌝ }
 {
     let open = word(rest, begin(rest), b" (+ (sub ");
@@ -140,7 +139,7 @@ pub fn equated(
 ) -> usize
     ensures { λ r.
         ⌜ r ≡ equatedAt depth (now (a .entry)) (terms .left) (now (line .entry)) (now (first .entry)) (now (b .entry))
-        (terms .right) (now (second .entry)) (now (rest .entry)) (stripAt (now (rest .entry)) (bytes "(or") 0) ⌝ }
+        (terms .right) (now (second .entry)) (now (rest .entry)) (literalsAt (now (rest .entry))) ⌝ }
     ensures { λ _. ⌜ (now (a .exit) ≡ now (a .entry)) × (now (b .exit) ≡ now (b .entry)) ⌝ }
     ensures { λ _. ⌜ (now (line .exit) ≡ now (line .entry)) × (now (rest .exit) ≡ now (rest .entry)) ⌝ }
 {
@@ -172,7 +171,7 @@ pub fn rewritten(
     ensures { λ r.
         ⌜ r ≡ rewrittenAt depth (now (a .entry)) (hole .literal) (hole .term) (now (line .entry)) (now (first .entry))
         (now (b .entry)) (hole .from) (now (second .entry)) (now (rest .entry))
-        (stripAt (now (rest .entry)) (bytes "(or") 0) ⌝ }
+        (literalsAt (now (rest .entry))) ⌝ }
     ensures { λ _. ⌜ (now (a .exit) ≡ now (a .entry)) × (now (b .exit) ≡ now (b .entry)) ⌝ }
     ensures { λ _. ⌜ (now (line .exit) ≡ now (line .entry)) × (now (rest .exit) ≡ now (rest .entry)) ⌝ }
 {

@@ -12,7 +12,7 @@ ghost use Rattle.text.specs.Places.{endOf};
 ghost use Rattle.text.specs.Read.{bad, strip};
 ghost use Rattle.text.specs.Access.{entryOf};
 ghost use Rattle.filling.specs.Filled.{itemDepth, holeDepth, itself, filledBy, fillItem, inside, indexed, matches};
-ghost use Rattle.filling.specs.Filled.{endsOf, replacing, plain, both, sameItem, nestedIn, unbrokenAt, endsAt};
+ghost use Rattle.filling.specs.Filled.{endsOf, replacing, plain, both, sameItem, endsAt};
 
 // The brackets of a literal whose terms nest so deep: its own, its atom's, its arguments', and those of its terms.
 pub fn item_depth(depth: u8) -> usize
@@ -41,32 +41,6 @@ pub struct Walk {
     pub hole: usize,
     pub from: usize,
     pub depth: usize,
-}
-
-// No item is replaced.
-fn unbroken(clause: &[u8], at: usize, pos: usize, depth: usize) -> Walk
-    ensures { λ r. ⌜ r ≡ unbrokenAt (now (clause .entry)) at pos depth ⌝ }
-{
-    Walk {
-        at,
-        pos,
-        hole: clause.len(),
-        from: 0,
-        depth,
-    }
-}
-
-// An item inside, at these places.
-fn nested(w: Walk, at: usize, pos: usize, depth: usize) -> Walk
-    ensures { λ r. ⌜ r ≡ nestedIn w at pos depth ⌝ }
-{
-    Walk {
-        at,
-        pos,
-        hole: w.hole,
-        from: w.from,
-        depth,
-    }
 }
 
 fn differ(clause: &[u8], other: &[u8]) -> Ends
@@ -165,8 +139,7 @@ pub fn expect(
         return differ(a, rest);
     }
     if at == w.hole {
-        let new = unbroken(b, w.from, w.pos, w.depth - 1);
-        let found = expect(b, second, &b[0..0], second, line, rest, new);
+        let found = expect_filled(b, w.from, w.depth - 1, line, second, rest, w.pos);
         return reach(a, skip(a, at), rest, found.pos);
     }
     let index = word(a, at, b"(v ");
@@ -181,7 +154,13 @@ pub fn expect(
     while i < a.len() {
         let byte = a[i];
         if byte == b'(' {
-            let part = nested(w, i, j, w.depth - 1);
+            let part = Walk {
+                at: i,
+                pos: j,
+                hole: w.hole,
+                from: w.from,
+                depth: w.depth - 1,
+            };
             let found = expect(a, first, b, second, line, rest, part);
             i = found.at;
             j = found.pos;

@@ -2,6 +2,13 @@
 ghost use Rattle.io.specs.Counts.{Counts};
 use libc::STDERR_FILENO;
 use libc::STDIN_FILENO;
+use print::ROOM;
+
+// Says why the last call failed, and of what.
+fn fail(what: &[u8]) {
+    io::write_all(STDERR_FILENO, b"fjob: ");
+    os::fail(what);
+}
 
 // Reads the base, answers how many bytes it has, and leaves in failed whether it could not be opened or read, which it says.
 fn read_base(path: &[u8], base: &mut [u8], failed: &mut bool) -> usize
@@ -9,13 +16,13 @@ fn read_base(path: &[u8], base: &mut [u8], failed: &mut bool) -> usize
 {
     let fd = os::open_read(path);
     if fd < 0 {
-        os::fail(path);
+        fail(path);
         *failed = true;
         return 0;
     }
     let n = console::read_text(fd, base, failed);
     if *failed {
-        os::fail(path);
+        fail(path);
     }
     libc::close(fd);
     n
@@ -27,11 +34,12 @@ fn check_input(base: &[u8]) {
     let mut failed = false;
     let n = console::read_text(STDIN_FILENO, &mut job, &mut failed);
     if failed {
-        io::write_all(STDERR_FILENO, b"fjob: standard input can't be read\n");
+        console::complain(b"fjob", b"standard input can't be read");
         return;
     }
-    if !console::print(verdict::check_job(base, &job[..n])) {
-        io::write_all(STDERR_FILENO, b"fjob: standard output can't be written\n");
+    let mut lines = [0u8; ROOM];
+    if !console::print(verdict::check_job(base, &job[..n]), &mut lines) {
+        console::complain(b"fjob", b"standard output can't be written");
     }
 }
 
@@ -46,17 +54,38 @@ fn check_over(path: &[u8]) {
     check_input(&base[..n]);
 }
 
+// Prints the help or the version, if it is asked for.
+fn told(argument: &[u8]) -> bool {
+    console::told(
+        b"fjob",
+        b"usage: fjob BASE < JOB
+Checks an F-logic derivation in two parts, the base in the file BASE and the job on standard input.
+If the base alone is refused, the answer is its own. Otherwise it is that of the two in a row, with
+lines and clauses counted through both. The answers are those of fcheck (fcheck --help).
+  fjob --help     prints this
+  fjob --version  prints the version
+A base in a file of such a name is given with its folder, as ./--help.
+",
+        argument,
+    )
+}
+
 // The first argument is the program's name, the second the base's. A name that is too long for a path is no file's.
 fn main() {
     if os::arg_count() != 2 {
-        io::write_all(STDERR_FILENO, b"usage: fjob BASE < JOB\n");
+        console::complain(
+            b"fjob",
+            b"the base's file is the only argument, and the job is read from standard input (fjob --help)",
+        );
         return;
     }
     let mut path = io::buffer();
     let n = os::arg(1, &mut path);
     if os::errno() != 0 {
-        os::fail(b"BASE");
+        fail(b"BASE");
         return;
     }
-    check_over(&path[..n]);
+    if !told(&path[..n]) {
+        check_over(&path[..n]);
+    }
 }

@@ -6,7 +6,8 @@ use mathlib.Core.Logic.{inl, inr, ⊎-elim}
 use mathlib.Core.Path.{_≡_, refl}
 use native.Mathlib.Omega.{arith}
 use lib.Dec.{T, eqb}
-use lib.ListN.{length, getD}
+use lib.ListN.{length, take, drop, getD}
+use lib.Seq.{drop-cons}
 use Rattle.logic.specs.Syntax.{app, Atom, nil, Clause, Step, Line, sym as symLine, input, by}
 use Rattle.logic.specs.Terms.{count}
 use Rattle.logic.specs.Each.{eachTerm, eachTerms, eachClause, declares, any, groundTerm}
@@ -152,11 +153,17 @@ refuted-none F text n a e H S m =
     none (g .0) (g .1) (λ h. h)
 
 -- The clauses that have these numbers are satisfied each.
-chosen-each : (table : List ℕ) (H : Atom → Type 0) (cs : List Clause) (ns : List ℕ) → ModelsAll table H (chosen ns cs) → (n : ℕ) → Member n ns → Models table H (getD cs n [])
+models-rest : (table : List ℕ) (H : Atom → Type 0) (cs ds : List Clause) → ModelsAll table H (cs ++ ds) → ModelsAll table H ds
+unfolding ModelsAll
+models-rest table H [] ds m = m
+models-rest table H (c ∷ cs) ds m = models-rest table H cs ds (m .1)
+
+chosen-each : (table : List ℕ) (H : Atom → Type 0) (cs : List Clause) (ns : List ℕ) → ModelsAll table H (chosen ns cs) → (n : ℕ) → n < length cs → Member n ns →
+    Models table H (getD cs n [])
 unfolding ModelsAll chosen Member
-chosen-each table H cs [] m n h = absurd h
-chosen-each table H cs (k ∷ ns) m n (inl e) = rw e (m .0)
-chosen-each table H cs (k ∷ ns) m n (inr h) = chosen-each table H cs ns (m .1) n h
+chosen-each table H cs [] m n l h = absurd h
+chosen-each table H cs (k ∷ ns) m n l (inl e) = rw e (let first = rw (drop-cons cs k [] (rw e at l)) at m in first .0)
+chosen-each table H cs (k ∷ ns) m n l (inr h) = chosen-each table H cs ns (models-rest table H (take 1 (drop k cs)) (chosen ns cs) m) n l h
 
 -- The first empty clause, from the inputs alone from which it descends.
 pub rests-none : (F : Figures) (text : List ℕ) (first : ℕ) (ns : List ℕ) → Accepted F text → FirstEmpty first (clausesOf F text) →
@@ -168,7 +175,7 @@ rests-none F text first ns a e r H S m =
     let w = empty-clause first (clausesOf F text) e in
     let Q : ℕ → Type 0 = Descends (length (st .inputs)) (st .steps) first in
     let known : (n : ℕ) → n < length (st .inputs) → Q n → Models (st .symbols) H (getD (st .inputs) n []) =
-    λ n h q. chosen-each (st .symbols) H (st .inputs) ns m n (r .exactly n .1 (h, q)) in
+    λ n h q. chosen-each (st .symbols) H (st .inputs) ns m n h (r .exactly n .1 (h, q)) in
     let k = steps-sound H S Q (st .inputs) (st .steps) (g .inputs-over) (g .given)
     (descends-closed (length (st .inputs)) (st .steps) first (st .inputs) 0 (st .steps) (omega arith) refl) known first (w .0) Descends.itself in
     let y = ground-substitution (tableOf F text) (a .constant) in

@@ -1,20 +1,23 @@
 -- The guarantee holds of every text and its answer, and accepted texts are exactly the written derivations within the limits.
-use Prim.Native.Nat.{ℕ}
-use mathlib.Core.List.{List}
+use Prim.Native.Nat.{ℕ, _<_}
+use mathlib.Core.List.{List, [], _∷_}
 use mathlib.Core.Logic.{_↔_}
 use mathlib.Core.Path.{_≡_, refl, sym, ap, subst, _∙_}
+use native.Mathlib.Omega.{arith}
 use lib.Dec.{T}
 use lib.ListN.{length}
 use Rattle.logic.specs.Reach.{ParentsFall}
 use Rattle.logic.specs.Descent.{RestsOn}
+use Rattle.logic.specs.Structure.{ModelsAll}
 use Rattle.logic.proofs.Descending.{given-falls, rests-exactly}
+use Rattle.logic.proofs.Every.{everything}
 use Rattle.text.specs.declared.Figures.{Figures}
 use Rattle.meaning.specs.declared.Verdict.{Verdict}
 use Rattle.meaning.specs.declared.Verdict.the-variants.{Refuted, Open, Refused}
-use Rattle.meaning.specs.Checks.{stateOf, inputsOf, stepsOf, clausesOf, Accepted}
+use Rattle.meaning.specs.Checks.{stateOf, tableOf, inputsOf, stepsOf, clausesOf, Accepted}
 use Rattle.meaning.specs.Answer.{verdict, restsIn, rests}
 use Rattle.meaning.specs.Means.{FirstEmpty, MeansVerdict, Names, Means}
-use Rattle.meaning.specs.Guarantee.{isAccepted, WrittenText, WholeClaim, Guarantee}
+use Rattle.meaning.specs.Guarantee.{isAccepted, WrittenText, chosen, WholeClaim, Guarantee}
 use Rattle.meaning.proofs.Meaning.{verdict-means, verdict-exactly, accepted-or-refused}
 use Rattle.meaning.proofs.Entailed.{accepted-good, accepted-entails, refuted-none, rests-none}
 use Rattle.meaning.proofs.Accepts.{written-accepted, accepted-written}
@@ -84,6 +87,13 @@ module _ (F : Figures) (text : List ℕ) where
 
   pub guaranteed : (v : Verdict) (ns : List ℕ) → Means F text v ns → Guarantee F text v ns
   guaranteed v ns m = let w = whole-claim v ns m in record { sound = λ S. w .sound (λ x. T (S x)); accepts = w .accepts }
+
+  -- V31, V32: a refuted answer names an input. With none named there would be no H-structure at all, and there is one.
+  pub refuted-names-input : (count first : ℕ) (ns : List ℕ) → Means F text (Refuted count first) ns → 0 < length ns
+  unfolding chosen ModelsAll
+  refuted-names-input count first [] m =
+      absurd (whole-claim (Refuted count first) [] m .sound _ .rests count first refl (everything (tableOf F text)) tt)
+  refuted-names-input count first (n ∷ ns) m = omega arith
 
   -- What `check` promises, from its equations.
   pub answered : (v : Verdict) (ns : List ℕ) → v ≡ verdict F text → ns ≡ rests F text →

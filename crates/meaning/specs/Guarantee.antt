@@ -2,10 +2,10 @@
 -- exactly this answer" (V26).
 use Prim.Native.Nat.{ℕ}
 use mathlib.Core.Bool.{Bool, true, false, not}
-use mathlib.Core.List.{List, [], _∷_}
+use mathlib.Core.List.{List, [], _∷_, _++_}
 use mathlib.Core.Path.{_≡_}
 use lib.Dec.{T}
-use lib.ListN.{getD}
+use lib.ListN.{take, drop}
 use Rattle.logic.specs.Syntax.{Atom, Clause, Line}
 use Rattle.logic.specs.Structure.{Structure, ModelsAll}
 use Rattle.logic.specs.Derivation.{Derivation, WrittenForm}
@@ -44,10 +44,10 @@ pub record WrittenText (F : Figures) (text : List ℕ) : Type 0 where
   pub bytes : text ≡ writeLines lines
   pub within : Within F lines
 
--- V32: the clauses that have these numbers.
+-- V32: the clauses that have these numbers. A number that no clause has chooses none.
 unfoldable pub chosen : List ℕ → List Clause → List Clause
 chosen [] cs = []
-chosen (n ∷ ns) cs = getD cs n [] ∷ chosen ns cs
+chosen (n ∷ ns) cs = take 1 (drop n cs) ++ chosen ns cs
 
 -- V23, V24, V32: of one set of atoms H, what the answer to a text says, the numbers of the inputs that it names given.
 pub record SoundFor (H : Atom → Type 0) (F : Figures) (text : List ℕ) (v : Verdict) (ns : List ℕ) : Type 0 where

@@ -3,14 +3,10 @@
 use Prim.Native.Nat.{ℕ}
 use mathlib.Core.List.{List, [], _∷_, _++_}
 use Rattle.text.specs.Words.{bytes, lineEnd}
-use Rattle.text.specs.Write.{putNumber}
+use Rattle.writer.specs.Written.{numeral}
 use Rattle.meaning.specs.declared.Verdict.{Verdict}
 use Rattle.meaning.specs.declared.Verdict.the-variants.{Refuted, Open, Refused}
 use Rattle.meaning.specs.Means.{verdictWord, numbers}
-
--- V28, T4: a number in decimal without leading zeros.
-unfoldable pub numeral : ℕ → List ℕ
-numeral n = putNumber n []
 
 -- V28: "one space before each number".
 unfoldable pub spaced : List ℕ → List ℕ

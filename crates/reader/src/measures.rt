@@ -1,7 +1,7 @@
 // What is measured of a part.
+use choices::both;
+use choices::larger;
 ghost use mathlib.Core.Path.{_≡_};
-ghost use mathlib.Core.Bool.{_&&_};
-ghost use Prim.Native.Nat.{max};
 ghost use Rattle.reader.specs.Summary.{empty, joined, counted};
 
 // How many parts, the highest variable plus 1, the most method arguments, and whether every applied symbol is declared.
@@ -10,12 +10,6 @@ pub struct Measure {
     pub width: usize,
     pub arguments: usize,
     pub declared: bool,
-}
-
-pub fn larger(a: usize, b: usize) -> usize
-    ensures { λ r. ⌜ r ≡ max a b ⌝ }
-{
-    if a < b { b } else { a }
 }
 
 // The measure of no terms.
@@ -28,12 +22,6 @@ pub fn none() -> Measure
         arguments: 0,
         declared: true,
     }
-}
-
-pub fn both(a: bool, b: bool) -> bool
-    ensures { λ r. ⌜ r ≡ a && b ⌝ }
-{
-    if a { b } else { false }
 }
 
 // Two parts together, counted as the first.

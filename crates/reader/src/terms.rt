@@ -1,11 +1,11 @@
 // Terms, and lists of terms up to a closing bracket.
 use crate::measures::Measure;
-use crate::measures::both;
 use crate::measures::join;
 use crate::measures::none;
 use crate::measures::recount;
 use crate::summaries::Summary;
 use crate::summaries::settle;
+use choices::both;
 use scan::numbers::number;
 use scan::words::HEAD;
 use scan::words::closes;

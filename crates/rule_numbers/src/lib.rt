@@ -1,5 +1,5 @@
 // Which of the numbers A I B J K each rule uses: checks 7 and 8 go by this table.
-use clauses::shapes::both;
+use choices::both;
 use logic::Rule;
 ghost use mathlib.Core.Path.{_≡_};
 ghost use Rattle.logic.specs.StepChecks.{below as belowIf, zeroIfUnused};

@@ -4,18 +4,14 @@ use Prim.Native.Nat.{ℕ, _+_}
 use mathlib.Core.Bool.{Bool, true, false, cond, not, _&&_}
 use mathlib.Core.List.{List}
 use lib.Dec.{eqb}
-use lib.ListN.{length, drop}
+use lib.ListN.{length}
 use Rattle.logic.specs.declared.Link.{Link}
 use Rattle.logic.specs.declared.Link.the-variants.{Eq, Mem, Sub}
 use Rattle.logic.specs.declared.Rule.{Rule}
 use Rattle.logic.specs.declared.Rule.the-variants.{Refl, Res, Fac, Par, Acy, Tra, Inc, Inh, Inp, Out, Sca, Eli}
 use Rattle.logic.specs.declared.Judged.{Judged}
 use Rattle.logic.specs.declared.Judged.the-variants.{Passed, Misshapen, Disagrees}
-use Rattle.text.specs.Words.{bytes}
-use Rattle.text.specs.Heads.{head, linkKind}
-use Rattle.text.specs.Places.{endOf}
-use Rattle.text.specs.Access.{toOccurrence}
-use Rattle.clauses.specs.Shapes.{stripAt, nextAt, argumentAt, positiveAt, negativeAt, firstAt, valueAt, objectAt}
+use Rattle.clauses.specs.Shapes.{nextAt, positiveAt, negativeAt, linkAt, deniedAt, occurrenceAt, signatureAt, scalarAt, methodArgumentAt, valueAt}
 use Rattle.filling.specs.Agree.{agreeAt, callsAt}
 use Rattle.clauses.specs.Shapes.{within}
 use Rattle.filling.specs.Covers.{coversAt}
@@ -49,100 +45,73 @@ rowOf Eli = row Elimination Nothing Sub true
 
 -- The term that a rewriting rule replaces. R11, R20: "term occurrence K", "counted from 0 in the literal at I as it is before filling".
 -- R13, R14: the second term of + sub or + mem. R15 to R17: "+ st or mt with object P", "an argument K", "a term result R".
-unfoldable pub partAt : Target → ℕ → List ℕ → ℕ → ℕ
-partAt Nothing k p at = length p + 1
-partAt Occurrence k p at = endOf p (toOccurrence k (drop at p))
-partAt Subclass k p at = nextAt p (firstAt p (head (linkKind Sub)) at)
-partAt Member k p at = nextAt p (firstAt p (head (linkKind Mem)) at)
-partAt Object k p at = objectAt p (bytes "(st ") (bytes "(mt ") at
-partAt Argument k p at = argumentAt p (nextAt p (nextAt p (objectAt p (bytes "(st ") (bytes "(mt ") at))) k
-partAt Result k p at = valueAt p (objectAt p (bytes "(st ") (bytes "(mt ") at)
+unfoldable pub targetPlace : Target → ℕ → List ℕ → ℕ → ℕ
+targetPlace Nothing k p at = length p + 1
+targetPlace Occurrence k p at = occurrenceAt p at k
+targetPlace Subclass k p at = nextAt p (linkAt p Sub at)
+targetPlace Member k p at = nextAt p (linkAt p Mem at)
+targetPlace Object k p at = signatureAt p at
+targetPlace Argument k p at = methodArgumentAt p (signatureAt p at) k
+targetPlace Result k p at = valueAt p (signatureAt p at)
 
 abbrev pub targetAt : List ℕ → Rule → ℕ → ℕ → ℕ
-targetAt p rule k at = partAt (rowOf rule .target) k p at
+targetAt p rule k at = targetPlace (rowOf rule .target) k p at
 
--- R8, refl: "no parent". R19, eli: "A only; - obj(P) at I". No term has to agree.
-abbrev pub denying : Kind → Bool → ℕ → Found
-denying kind shaped i = record { kind = kind; shaped = shaped; arrows = true; literal = i; left = 0; more = 0; right = 0; other = 0 }
+-- Whether the shape is right and the arrow the same, the literal at I, and two places in each clause.
+abbrev found : Kind → Bool → Bool → ℕ → ℕ → ℕ → ℕ → ℕ → Found
+found kind shaped arrows i left more right other =
+    record { kind = kind; shaped = shaped; arrows = arrows; literal = i; left = left; more = more; right = right; other = other }
+
+-- R8, refl: "no parent". No term has to agree.
+abbrev pub nothingFound : Kind → ℕ → Found
+nothingFound kind i = found kind true true i 0 0 0 0
 
 -- R9, res, "- L, + L'": the two atoms.
 unfoldable pub resolved : List ℕ → ℕ → List ℕ → ℕ → Found
 resolved p i q j =
     let x = negativeAt p i in
     let y = positiveAt q j in
-    record { kind = Resolution; shaped = within p x && within q y; arrows = true; literal = i; left = x; more = 0; right = y; other = 0 }
+    found Resolution (within p x && within q y) true i x 0 y 0
 
 -- R10, fac, "A only; I and J differ, both literals have the same sign": q is p.
 unfoldable pub factored : List ℕ → ℕ → List ℕ → ℕ → Found
-factored p i q j =
-    record {
-      kind = Factoring;
-      shaped = not (eqb i j) && sameSignAt p i q j;
-      arrows = true;
-      literal = i;
-      left = atomAt p i;
-      more = 0;
-      right = atomAt q j;
-      other = 0;
-    }
+factored p i q j = found Factoring (not (eqb i j) && sameSignAt p i q j) true i (atomAt p i) 0 (atomAt q j) 0
 
 -- R11, R13 to R17, par, tra, inc, inh, inp, out: the term, the side of the link that has to agree with it, and the other side.
 unfoldable pub replaced : Row → ℕ → List ℕ → ℕ → List ℕ → ℕ → Found
 replaced r k p i q j =
-    let x = partAt (r .target) k p i in
-    let y = firstAt q (head (linkKind (r .link))) j in
-    record {
-      kind = Rewriting;
-      shaped = within p x && within q (nextAt q y);
-      arrows = true;
-      literal = i;
-      left = x;
-      more = 0;
-      right = cond (r .forward) y (nextAt q y);
-      other = cond (r .forward) (nextAt q y) y;
-    }
+    let x = targetPlace (r .target) k p i in
+    let y = linkAt q (r .link) j in
+    let z = nextAt q y in
+    found Rewriting (within p x && within q z) true i x 0 (cond (r .forward) y z) (cond (r .forward) z y)
 
 -- R12, acy, "+ sub(P,Q), + sub(Q',P')": P and Q, P' and Q'.
 unfoldable pub crossed : List ℕ → ℕ → List ℕ → ℕ → Found
 crossed p i q j =
-    let x = firstAt p (head (linkKind Sub)) i in
-    let y = firstAt q (head (linkKind Sub)) j in
-    record {
-      kind = Acyclicity;
-      shaped = within p (nextAt p x) && within q (nextAt q y);
-      arrows = true;
-      literal = i;
-      left = x;
-      more = nextAt p x;
-      right = nextAt q y;
-      other = y;
-    }
+    let x = linkAt p Sub i in
+    let y = linkAt q Sub j in
+    found Acyclicity (within p (nextAt p x) && within q (nextAt q y)) true i x (nextAt p x) (nextAt q y) y
 
 -- R18, sca, "+ sv or si with result R, + sv or si with result R'": the objects and the results, and whether the arrow is the same.
 unfoldable pub called : List ℕ → ℕ → List ℕ → ℕ → Found
 called p i q j =
-    let x = objectAt p (bytes "(sv ") (bytes "(si ") i in
-    let y = objectAt q (bytes "(sv ") (bytes "(si ") j in
-    record {
-      kind = Scalarity;
-      shaped = within p (valueAt p x) && within q (valueAt q y);
-      arrows = sameArrowAt p i q j;
-      literal = i;
-      left = x;
-      more = valueAt p x;
-      right = y;
-      other = valueAt q y;
-    }
+    let x = scalarAt p i in
+    let y = scalarAt q j in
+    found Scalarity (within p (valueAt p x) && within q (valueAt q y)) (sameArrowAt p i q j) i x (valueAt p x) y (valueAt q y)
+
+-- R19, eli: "A only; - obj(P) at I". No term has to agree.
+abbrev pub denying : List ℕ → ℕ → Found
+denying p i = found Elimination (within p (deniedAt p i)) true i 0 0 0 0
 
 -- The shape (V19): "a position, sign, kind of atom, result, K, or pair I, J".
 unfoldable pub foundBy : Kind → Row → ℕ → List ℕ → ℕ → List ℕ → ℕ → Found
-foundBy Reflexivity r k p i q j = denying Reflexivity true i
+foundBy Reflexivity r k p i q j = nothingFound Reflexivity i
 foundBy Resolution r k p i q j = resolved p i q j
 foundBy Factoring r k p i q j = factored p i q j
 foundBy Rewriting r k p i q j = replaced r k p i q j
 foundBy Acyclicity r k p i q j = crossed p i q j
 foundBy Scalarity r k p i q j = called p i q j
-foundBy Elimination r k p i q j = denying Elimination (within p (stripAt p (bytes "(- (obj ") i)) i
+foundBy Elimination r k p i q j = denying p i
 
 abbrev pub foundAt : Rule → ℕ → List ℕ → ℕ → List ℕ → ℕ → Found
 foundAt rule k p i q j = foundBy (rowOf rule .kind) (rowOf rule) k p i q j

@@ -1,8 +1,9 @@
 // Checks 9 and 10: the rule table. The literals at I and J begin at the places x of clause a and y of clause b.
+use choices::both;
+use choices::choose;
 use clauses::access::occurrence;
 use clauses::shapes::argument;
 use clauses::shapes::atom;
-use clauses::shapes::both;
 use clauses::shapes::denied;
 use clauses::shapes::link;
 use clauses::shapes::negative;
@@ -21,8 +22,7 @@ use logic::Link;
 use logic::Rule;
 use rule_numbers::row;
 ghost use mathlib.Core.Path.{_≡_};
-ghost use mathlib.Core.Bool.{cond};
-ghost use Rattle.rule_table.specs.Rows.{rowOf, partAt, foundBy, resolved, factored, replaced, crossed, called, denying, agreesBy};
+ghost use Rattle.rule_table.specs.Rows.{rowOf, targetPlace, nothingFound, foundBy, resolved, factored, replaced, crossed, called, denying, agreesBy};
 
 // What a rule asks of its literals.
 pub enum Kind {
@@ -143,12 +143,6 @@ pub struct Found {
     pub other: usize,
 }
 
-pub fn choose(first: bool, x: usize, y: usize) -> usize
-    ensures { λ r. ⌜ r ≡ cond first x y ⌝ }
-{
-    if first { x } else { y }
-}
-
 // The rule's row.
 pub fn table_row(rule: Rule) -> Row
     ensures { λ r. ⌜ r ≡ rowOf rule ⌝ }
@@ -158,8 +152,8 @@ pub fn table_row(rule: Rule) -> Row
 }
 
 // The term that a rewriting rule replaces.
-fn part(target: Target, k: usize, clause: &[u8], at: usize) -> usize
-    ensures { λ r. ⌜ r ≡ partAt target k (now (clause .entry)) at ⌝ }
+fn target_place(target: Target, k: usize, clause: &[u8], at: usize) -> usize
+    ensures { λ r. ⌜ r ≡ targetPlace target k (now (clause .entry)) at ⌝ }
 {
     match target {
         Target::Nothing => clause.len() + 1,
@@ -172,112 +166,13 @@ fn part(target: Target, k: usize, clause: &[u8], at: usize) -> usize
     }
 }
 
-// res: - L at I, + L' at J.
-fn resolution(a: &[u8], x: usize, b: &[u8], y: usize) -> Found
-    ensures { λ r. ⌜ r ≡ resolved (now (a .entry)) x (now (b .entry)) y ⌝ }
-{
-    let left = negative(a, x);
-    let right = positive(b, y);
-    Found {
-        kind: Kind::Resolution,
-        shaped: both(within(a, left), within(b, right)),
-        arrows: true,
-        literal: x,
-        left,
-        more: 0,
-        right,
-        other: 0,
-    }
-}
-
-// fac: I, J differ, same sign. Clause b is clause a.
-fn factoring(a: &[u8], x: usize, b: &[u8], y: usize) -> Found
-    ensures { λ r. ⌜ r ≡ factored (now (a .entry)) x (now (b .entry)) y ⌝ }
-{
-    let left = atom(a, x);
-    let right = atom(b, y);
-    Found {
-        kind: Kind::Factoring,
-        shaped: both(x != y, same_sign(a, x, b, y)),
-        arrows: true,
-        literal: x,
-        left,
-        more: 0,
-        right,
-        other: 0,
-    }
-}
-
-// par, tra, inc, inh, inp and out: a term of the literal at I, and a link at J, whose other side takes the term's place.
-fn rewriting(r: Row, k: usize, a: &[u8], x: usize, b: &[u8], y: usize) -> Found
-    ensures { λ f. ⌜ f ≡ replaced r k (now (a .entry)) x (now (b .entry)) y ⌝ }
-{
-    let target = r.target;
-    let kind = r.link;
-    let left = part(target, k, a, x);
-    let u = link(b, kind, y);
-    let v = next(b, u);
-    let right = choose(r.forward, u, v);
-    let other = choose(r.forward, v, u);
-    Found {
-        kind: Kind::Rewriting,
-        shaped: both(within(a, left), within(b, v)),
-        arrows: true,
-        literal: x,
-        left,
-        more: 0,
-        right,
-        other,
-    }
-}
-
-// acy: + sub(P,Q), + sub(Q',P').
-fn acyclicity(a: &[u8], x: usize, b: &[u8], y: usize) -> Found
-    ensures { λ r. ⌜ r ≡ crossed (now (a .entry)) x (now (b .entry)) y ⌝ }
-{
-    let left = link(a, Link::Sub, x);
-    let more = next(a, left);
-    let other = link(b, Link::Sub, y);
-    let right = next(b, other);
-    Found {
-        kind: Kind::Acyclicity,
-        shaped: both(within(a, more), within(b, right)),
-        arrows: true,
-        literal: x,
-        left,
-        more,
-        right,
-        other,
-    }
-}
-
-// sca: two + sv or si atoms: their objects and their results.
-fn scalarity(a: &[u8], x: usize, b: &[u8], y: usize) -> Found
-    ensures { λ r. ⌜ r ≡ called (now (a .entry)) x (now (b .entry)) y ⌝ }
-{
-    let left = scalar(a, x);
-    let right = scalar(b, y);
-    let more = value(a, left);
-    let other = value(b, right);
-    Found {
-        kind: Kind::Scalarity,
-        shaped: both(within(a, more), within(b, other)),
-        arrows: same_arrow(a, x, b, y),
-        literal: x,
-        left,
-        more,
-        right,
-        other,
-    }
-}
-
-// eli: - obj(P) at I; refl: nothing.
-fn alone(kind: Kind, shaped: bool, x: usize) -> Found
-    ensures { λ r. ⌜ r ≡ denying kind shaped x ⌝ }
+// No place but the literal at I, and nothing asked of it: so for refl.
+fn nothing_found(kind: Kind, x: usize) -> Found
+    ensures { λ r. ⌜ r ≡ nothingFound kind x ⌝ }
 {
     Found {
         kind,
-        shaped,
+        shaped: true,
         arrows: true,
         literal: x,
         left: 0,
@@ -287,6 +182,80 @@ fn alone(kind: Kind, shaped: bool, x: usize) -> Found
     }
 }
 
+// res: - L at I, + L' at J.
+fn resolution(a: &[u8], x: usize, b: &[u8], y: usize) -> Found
+    ensures { λ r. ⌜ r ≡ resolved (now (a .entry)) x (now (b .entry)) y ⌝ }
+{
+    let mut f = nothing_found(Kind::Resolution, x);
+    f.left = negative(a, x);
+    f.right = positive(b, y);
+    f.shaped = both(within(a, f.left), within(b, f.right));
+    f
+}
+
+// fac: I, J differ, same sign. Clause b is clause a.
+fn factoring(a: &[u8], x: usize, b: &[u8], y: usize) -> Found
+    ensures { λ r. ⌜ r ≡ factored (now (a .entry)) x (now (b .entry)) y ⌝ }
+{
+    let mut f = nothing_found(Kind::Factoring, x);
+    f.left = atom(a, x);
+    f.right = atom(b, y);
+    f.shaped = both(x != y, same_sign(a, x, b, y));
+    f
+}
+
+// par, tra, inc, inh, inp and out: a term of the literal at I, and a link at J, whose other side takes the term's place.
+fn rewriting(r: Row, k: usize, a: &[u8], x: usize, b: &[u8], y: usize) -> Found
+    ensures { λ f. ⌜ f ≡ replaced r k (now (a .entry)) x (now (b .entry)) y ⌝ }
+{
+    let target = r.target;
+    let kind = r.link;
+    let u = link(b, kind, y);
+    let v = next(b, u);
+    let mut f = nothing_found(Kind::Rewriting, x);
+    f.left = target_place(target, k, a, x);
+    f.right = choose(r.forward, u, v);
+    f.other = choose(r.forward, v, u);
+    f.shaped = both(within(a, f.left), within(b, v));
+    f
+}
+
+// acy: + sub(P,Q), + sub(Q',P').
+fn acyclicity(a: &[u8], x: usize, b: &[u8], y: usize) -> Found
+    ensures { λ r. ⌜ r ≡ crossed (now (a .entry)) x (now (b .entry)) y ⌝ }
+{
+    let mut f = nothing_found(Kind::Acyclicity, x);
+    f.left = link(a, Link::Sub, x);
+    f.more = next(a, f.left);
+    f.other = link(b, Link::Sub, y);
+    f.right = next(b, f.other);
+    f.shaped = both(within(a, f.more), within(b, f.right));
+    f
+}
+
+// sca: two + sv or si atoms: their objects and their results.
+fn scalarity(a: &[u8], x: usize, b: &[u8], y: usize) -> Found
+    ensures { λ r. ⌜ r ≡ called (now (a .entry)) x (now (b .entry)) y ⌝ }
+{
+    let mut f = nothing_found(Kind::Scalarity, x);
+    f.left = scalar(a, x);
+    f.right = scalar(b, y);
+    f.more = value(a, f.left);
+    f.other = value(b, f.right);
+    f.arrows = same_arrow(a, x, b, y);
+    f.shaped = both(within(a, f.more), within(b, f.other));
+    f
+}
+
+// eli: - obj(P) at I.
+fn elimination(a: &[u8], x: usize) -> Found
+    ensures { λ r. ⌜ r ≡ denying (now (a .entry)) x ⌝ }
+{
+    let mut f = nothing_found(Kind::Elimination, x);
+    f.shaped = within(a, denied(a, x));
+    f
+}
+
 // The second column: what the shape names.
 pub fn find(r: Row, k: usize, a: &[u8], x: usize, b: &[u8], y: usize) -> Found
     ensures { λ f. ⌜ f ≡ foundBy (r .kind) r k (now (a .entry)) x (now (b .entry)) y ⌝ }
@@ -294,13 +263,13 @@ pub fn find(r: Row, k: usize, a: &[u8], x: usize, b: &[u8], y: usize) -> Found
 {
     let kind = r.kind;
     match kind {
-        Kind::Reflexivity => alone(Kind::Reflexivity, true, x),
+        Kind::Reflexivity => nothing_found(Kind::Reflexivity, x),
         Kind::Resolution => resolution(a, x, b, y),
         Kind::Factoring => factoring(a, x, b, y),
         Kind::Rewriting => rewriting(r, k, a, x, b, y),
         Kind::Acyclicity => acyclicity(a, x, b, y),
         Kind::Scalarity => scalarity(a, x, b, y),
-        Kind::Elimination => alone(Kind::Elimination, within(a, denied(a, x)), x),
+        Kind::Elimination => elimination(a, x),
     }
 }
 

@@ -33,7 +33,7 @@ use Rattle.rules.proofs.TermsMeet.{TermAt}
 use Rattle.rules.proofs.RowsMeet.{LinkView, no-link, a-link, onLinkOf, link-view}
 use Rattle.rules.proofs.Rewrites.{rewriteAt, rewriteNewAt, Rewritten, not-rewritten, filler-entry, side-new, filler-hole, rewritten}
 use Rattle.rules.proofs.Meets.{Images, LiteralAt, Meets}
-use Rattle.rule_table.specs.Rows.{rowAt, foundBy, replaced, agreesBy, partAt}
+use Rattle.rule_table.specs.Rows.{rowAt, foundBy, replaced, agreesBy, targetPlace}
 use Rattle.rules.specs.Claim.{newAt, newBy}
 
 -- The way to an occurrence ends within the bytes.
@@ -78,5 +78,5 @@ module _ (depth : ℕ) where
         (subst (λ (n : ℕ). Occurs f σ v depth n k (lit g z) (a .rest) (findLiteral σ (fill τ c) (lit g z) k)) (stack-sum depth (itemDepth depth)) (occurs f σ v depth depth (filler-entry depth p line starts q others σ τ v w images images′ x (nextAt q y)) (fill τ c) (side-new depth p line starts q others σ τ v w images images′ true x b c at-b at-c) g z (a .formed) (omega (arith, a .narrow)) k (a .rest))))
 
     pub par-meets : (i j k : ℕ) (l m : Literal) → LiteralAt depth p i v l → LiteralAt depth q j w m → Meets depth Par k p i line starts q j others (conclude-par σ k l (fillLiteral τ m))
-    unfolding rowAt foundBy replaced agreesBy partAt newAt newBy rewriteAt rewriteNewAt
+    unfolding rowAt foundBy replaced agreesBy targetPlace newAt newBy rewriteAt rewriteNewAt
     par-meets i j k l m a b = let r = by-eq i (firstAt q (bytes "(eq ") j) k l m a (link-view depth q j w τ Eq m b) in record { judged = r .judged; claimed = r .claimed }

@@ -34,7 +34,7 @@ use Rattle.rules.proofs.Targets.{Placed, missed, found, Aimed, past-sec
 use Rattle.rules.proofs.Meets.{Images, LiteralAt, Meets}
 use Rattle.rules.proofs.TermsMeet.{TermAt, term-meets}
 use Rattle.rules.proofs.RowsMeet.{LinkView, no-link, a-link, onLinkOf, link-view, both-within, past-shape}
-use Rattle.rule_table.specs.Rows.{answer, rowOf, partAt, targetAt, rowAt, foundBy, replaced, agreesBy}
+use Rattle.rule_table.specs.Rows.{answer, rowOf, targetPlace, targetAt, rowAt, foundBy, replaced, agreesBy}
 use Rattle.filling.specs.Agree.{agreeAt}
 use Rattle.clauses.specs.Shapes.{within}
 use Rattle.rules.specs.Claim.{newAt, newBy}
@@ -153,5 +153,5 @@ module _ (depth : ℕ) where
         (i ≡ length p + 1) ⊎ (j ≡ length q + 1) → rowAt depth rule k p i line starts q j others ≡ Misshapen
     unfolding rowAt foundBy replaced agreesBy rewriteAt
     rewrites-past rule target kind forward r missing =
-        rw r (misses p i (partAt target k p i) line starts q (firstAt q (head (linkKind kind)) j) forward others
-        (⊎-elim (λ e. inl (ap (partAt target k p) e ∙ past-target p target k)) (λ e. inr (ap (λ at. nextAt q (firstAt q (head (linkKind kind)) at)) e ∙ past-second q kind)) missing))
+        rw r (misses p i (targetPlace target k p i) line starts q (firstAt q (head (linkKind kind)) j) forward others
+        (⊎-elim (λ e. inl (ap (targetPlace target k p) e ∙ past-target p target k)) (λ e. inr (ap (λ at. nextAt q (firstAt q (head (linkKind kind)) at)) e ∙ past-second q kind)) missing))

@@ -42,7 +42,7 @@ use Rattle.filling.proofs.Placed.{Argument as Chosen, first, next, replaced, ho
 use Rattle.clauses.proofs.Placing.{Stands, walk-stands, walk-past, none-past, fromMethod, inner, past-inner, past-value, result-stands, either-past, either-stands, value-of, value-none, next-term, past-next, past-strip, positive-stands, negative-past, head-stands, head-past}
 use Rattle.rule_table.specs.declared.Target.{Target as Part}
 use Rattle.rule_table.specs.declared.Target.the-variants.{Nothing, Occurrence, Subclass, Member, Object as Owner, Argument as Input, Result as Output}
-use Rattle.rule_table.specs.Rows.{targetAt, partAt}
+use Rattle.rule_table.specs.Rows.{targetAt, targetPlace}
 
 module _ (depth : ℕ) where
   -- A target of the literal l, which `rest` follows: it is formed, its variables are below w, and filling with the hole at it, which `left` follows, puts
@@ -235,8 +235,8 @@ module _ (p : List ℕ) where
   unfolding objectAt
   past-object-at = rw past-positive past-signature
 
-  pub past-target : (t : Part) (k : ℕ) → partAt t k p (length p + 1) ≡ length p + 1
-  unfolding partAt toOccurrence strip
+  pub past-target : (t : Part) (k : ℕ) → targetPlace t k p (length p + 1) ≡ length p + 1
+  unfolding targetPlace toOccurrence strip
   past-target Nothing k = refl
   past-target Occurrence k = none-past p (toOccurrence k) refl
   past-target Subclass k = past-second Sub
@@ -273,12 +273,12 @@ module _ (depth : ℕ) where
     Aimed rule = (at k : ℕ) (l : Literal) (rest : List ℕ) → Stands p at (putLiteral l rest) → T (formedLiteral depth l) → width (l ∷ []) ≤ w → Placed depth p (targetAt p rule k at) w l rest (aim k rule l)
 
     pub tra-placed : Aimed Tra
-    unfolding partAt firstAt aim
+    unfolding targetPlace firstAt aim
     tra-placed at k l rest =
         positive-placed l rest (λ at. nextAt p (stripAt p (head 2) at)) (linkAim Sub) (past-link p Sub) (λ x at i s. link-placed Sub x rest i s)
 
     pub inc-placed : Aimed Inc
-    unfolding partAt firstAt aim
+    unfolding targetPlace firstAt aim
     inc-placed at k l rest =
         positive-placed l rest (λ at. nextAt p (stripAt p (head 1) at)) (linkAim Mem) (past-link p Mem) (λ x at i s. link-placed Mem x rest i s)
 
@@ -299,7 +299,7 @@ module _ (depth : ℕ) where
 
     -- The three places that are aimed at in a signature.
     pub inh-placed : Aimed Inh
-    unfolding partAt objectAt aim objectAim
+    unfolding targetPlace objectAt aim objectAim
     inh-placed at k l rest =
         positive-placed l rest (signatureFrom p) _ (past-signature p) (λ x at i s. method-placed x rest (λ o. o) objectAim refl (λ a o m ts r at i v. found _ _ v (object-hole depth w rest a o m ts r i)) i s)
 
@@ -310,7 +310,7 @@ module _ (depth : ℕ) where
     output-placed a o m ts none rest i s = missed (value-none p o m ts (word ")" rest) s)
 
     pub out-placed : Aimed Out
-    unfolding partAt objectAt aim
+    unfolding targetPlace objectAt aim
     out-placed at k l rest =
         positive-placed l rest (λ at. valueAt p (signatureFrom p at)) _ (ap (valueAt p) (past-signature p) ∙ past-value p) (λ x at i s.
         method-placed x rest (valueAt p) outputAim (past-value p) (λ a o m ts r at i v. output-placed a o m ts r rest i v) i s)
@@ -331,7 +331,7 @@ module _ (depth : ℕ) where
         go e (present c) = found _ _ (walk-stands p at (argument-tail k) s e) (argument-hole depth w rest a o m ts r i c)
 
     pub inp-placed : Aimed Inp
-    unfolding partAt objectAt aim
+    unfolding targetPlace objectAt aim
     inp-placed at k l rest =
         let f : ℕ → ℕ = λ o. argumentAt p (nextAt p (nextAt p o)) k in
         positive-placed l rest (λ at. f (signatureFrom p at)) _ (ap f (past-signature p) ∙ past-input p k) (λ x at i s.

@@ -6,10 +6,9 @@ use mathlib.Core.Bool.{Bool, cond}
 use mathlib.Core.List.{List}
 use Rattle.logic.specs.declared.Rule.{Rule}
 use Rattle.logic.specs.Rules.{uses}
-use Rattle.text.specs.Words.{bytes}
-use Rattle.clauses.specs.Shapes.{stripAt, positiveAt}
+use Rattle.clauses.specs.Shapes.{literalsAt, positiveAt}
 use Rattle.clauses.specs.Shapes.{within}
-use Rattle.filling.specs.Claims.{rewrittenAt, reflexiveAt, equatedAt, othersAt}
+use Rattle.filling.specs.Claims.{rewrittenAt, reflexiveAt, equatedAt, othersAt, claimEnd}
 use Rattle.rule_table.specs.declared.Kind.{Kind}
 use Rattle.rule_table.specs.declared.Kind.the-variants.{Reflexivity, Resolution, Factoring, Rewriting, Acyclicity, Scalarity, Elimination}
 use Rattle.rule_table.specs.declared.Found.{Found}
@@ -41,9 +40,9 @@ droppedAt usesB p at i j = cond usesB i (cond (within p (positiveAt p at)) j i)
 -- R21: "The claim, all of it filled, is the new literal, if there is one, then A's other literals, then B's other literals, in order."
 unfoldable pub claimBy : Found → Kept → List ℕ → List ℕ → List ℕ → List ℕ → List ℕ → List ℕ → ℕ
 claimBy f kept p line starts q others rest =
-    let new = newBy (kept .depth) (f .kind) f p line starts q others rest (stripAt rest (bytes "(or") 0) in
+    let new = newBy (kept .depth) (f .kind) f p line starts q others rest (literalsAt rest) in
     let first = othersAt (kept .depth) p (kept .a) (kept .i) line starts rest new in
-    stripAt rest (bytes "))") (othersAt (kept .depth) q (kept .b) (kept .j) line others rest first)
+    claimEnd rest (othersAt (kept .depth) q (kept .b) (kept .j) line others rest first)
 
 -- The clauses have n and m literals, those at I and J begin at the places x and y.
 unfoldable pub claimAt : ℕ → Rule → ℕ → List ℕ → ℕ → ℕ → ℕ → List ℕ → List ℕ → List ℕ → ℕ → ℕ → ℕ → List ℕ → List ℕ → ℕ

@@ -12,8 +12,7 @@ use rule_table::Kind;
 ghost use mathlib.Core.Path.{_≡_};
 ghost use lib.Dec.{eqb};
 ghost use lib.ListN.{length};
-ghost use Rattle.text.specs.Words.{bytes};
-ghost use Rattle.clauses.specs.Shapes.{stripAt};
+ghost use Rattle.clauses.specs.Shapes.{literalsAt};
 ghost use Rattle.rules.specs.Claim.{newBy, claimBy};
 
 // What the claim keeps, of terms that nest at most `depth` deep: of A's first `a` literals all but literal i, of B's first `b` all but
@@ -39,7 +38,7 @@ fn new_literal(
 ) -> usize
     ensures { λ r.
         ⌜ r ≡ newBy depth (f .kind) f (now (a .entry)) (now (line .entry)) (now (first .entry)) (now (b .entry))
-        (now (second .entry)) (now (rest .entry)) (stripAt (now (rest .entry)) (bytes "(or") 0) ⌝ }
+        (now (second .entry)) (now (rest .entry)) (literalsAt (now (rest .entry))) ⌝ }
 {
     let kind = f.kind;
     match kind {

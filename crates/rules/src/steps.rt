@@ -1,7 +1,8 @@
 // Checks 7 to 11 of a step.
 use crate::claims::Kept;
 use crate::claims::claimed;
-use clauses::shapes::both;
+use choices::both;
+use choices::choose;
 use clauses::shapes::list;
 use clauses::shapes::literal;
 use clauses::shapes::positive;
@@ -13,7 +14,6 @@ use rule_numbers::parents_below;
 use rule_numbers::unused_zero;
 use rule_numbers::used;
 use rule_table::agrees;
-use rule_table::choose;
 use rule_table::find;
 use rule_table::table_row;
 use source::clause_part;

@@ -4,19 +4,19 @@
 ghost use mathlib.Core.Path.{_≡_};
 ghost use Rattle.text.specs.Kinds.{kindOf, between as isBetween};
 
-pub const DIGIT: u8 = 0;
+pub const KIND_DIGIT: u8 = 0;
 
-pub const SMALL_LETTER: u8 = 1;
+pub const KIND_SMALL_LETTER: u8 = 1;
 
-pub const BRACKET: u8 = 2;
+pub const KIND_BRACKET: u8 = 2;
 
-pub const SIGN: u8 = 3;
+pub const KIND_SIGN: u8 = 3;
 
-pub const SPACE: u8 = 4;
+pub const KIND_SPACE: u8 = 4;
 
-pub const LINE_END: u8 = 5;
+pub const KIND_LINE_END: u8 = 5;
 
-pub const OTHER: u8 = 6;
+pub const KIND_OTHER: u8 = 6;
 
 // Whether the byte is one from `first` to `last`.
 fn between(first: u8, last: u8, b: u8) -> bool
@@ -29,16 +29,16 @@ pub fn kind(b: u8) -> u8
     ensures { λ r. ⌜ r ≡ kindOf b ⌝ }
 {
     if between(b'0', b'9', b) {
-        return DIGIT;
+        return KIND_DIGIT;
     }
     if between(b'a', b'z', b) {
-        return SMALL_LETTER;
+        return KIND_SMALL_LETTER;
     }
     match b {
-        b'(' | b')' => BRACKET,
-        b'+' | b'-' => SIGN,
-        b' ' => SPACE,
-        b'\n' => LINE_END,
-        _ => OTHER,
+        b'(' | b')' => KIND_BRACKET,
+        b'+' | b'-' => KIND_SIGN,
+        b' ' => KIND_SPACE,
+        b'\n' => KIND_LINE_END,
+        _ => KIND_OTHER,
     }
 }

@@ -1,5 +1,5 @@
 // Numbers N.
-use crate::kinds::DIGIT;
+use crate::kinds::KIND_DIGIT;
 use crate::kinds::kind;
 ghost use mathlib.Core.Path.{_≡_};
 ghost use Prim.Native.Nat.{_≤_};
@@ -19,7 +19,7 @@ pub struct NumberAt {
 fn digit(b: u8) -> bool
     ensures { λ r. ⌜ r ≡ isDigit b ⌝ }
 {
-    kind(b) == DIGIT
+    kind(b) == KIND_DIGIT
 }
 
 // Whether a digit may follow n and make it `further`.

@@ -82,9 +82,6 @@ pub fn prefix(s: &[u8], at: usize, w: &[u8]) -> usize
     ensures { λ r. ⌜ r ≡ endOf (now (s .entry)) (strip (now (w .entry)) (drop at (now (s .entry)))) ⌝ }
     ensures { λ _. ⌜ (now (s .exit) ≡ now (s .entry)) × (now (w .exit) ≡ now (w .entry)) ⌝ }
 {
-    if w.len() < STRIDE {
-        return word(s, at, w);
-    }
     let i = ahead(s, at, w);
     word(s, at + i, &w[i..])
 }

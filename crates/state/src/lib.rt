@@ -1,11 +1,11 @@
 // The reading state: the argument counts of the symbols and the places of the clauses. Checks 2 to 6 of a line.
+use choices::larger;
 use reader::forms::ItemAt;
 use reader::forms::LineAt;
 use reader::forms::StepAt;
 use reader::forms::line;
 use reader::measures::Measure;
 use reader::measures::join;
-use reader::measures::larger;
 use text::BYTES;
 use text::Figures;
 use text::LINES;

@@ -3,6 +3,8 @@
 //! standard input. The exit status is 0 where the text is accepted, 1 where it is
 //! refused, and 2 where something can't be read or the answer can't be written.
 
+mod standard;
+
 use std::fs::File;
 use std::io::{self, Read, Write};
 use std::process::ExitCode;
@@ -28,14 +30,14 @@ fn main() -> ExitCode {
 fn check() -> io::Result<Verdict> {
     let arguments: Vec<_> = std::env::args_os().skip(1).collect();
     let answer = match &arguments[..] {
-        [] => fcheck::check(&read(io::stdin())?),
+        [] => fcheck::check(&read(standard::input()?)?),
         [base] => {
             let base = read(File::open(base)?)?;
-            fcheck::check_job(&base, &read(io::stdin())?)
+            fcheck::check_job(&base, &read(standard::input()?)?)
         }
         _ => return Err(io::Error::other("usage: check [BASE] < TEXT")),
     };
-    writeln!(io::stdout(), "{answer}")?;
+    writeln!(standard::output()?, "{answer}")?;
     Ok(answer.verdict)
 }
 

@@ -97,19 +97,30 @@ impl Program {
     pub fn tells_failed_read(&self, base: Option<&Path>) -> io::Result<()> {
         let folder = File::open("/")?;
         let arguments: Vec<&OsStr> = base.into_iter().map(Path::as_os_str).collect();
-        self.tells_failure(&arguments, folder.into())
+        self.tells_failure(self.spawn(&arguments, folder.into())?)
+    }
+
+    /// The same where the shell closes standard input or output, by `<&-` or
+    /// `>&-`.
+    pub fn tells_closed(&self, closing: &str, base: Option<&Path>) -> io::Result<()> {
+        let mut shell = Command::new("sh");
+        let commands = format!("exec \"$@\" {closing}");
+        shell
+            .args(["-c", &commands, "sh"])
+            .arg(&self.path)
+            .args(base);
+        self.tells_failure(piped(&mut shell, Stdio::null()).spawn()?)
     }
 
     /// The same for arguments with which it can't do anything.
     pub fn tells_wrong_arguments(&self, arguments: &[&Path]) -> io::Result<()> {
         let arguments: Vec<&OsStr> = arguments.iter().map(|path| path.as_os_str()).collect();
-        self.tells_failure(&arguments, Stdio::null())
+        self.tells_failure(self.spawn(&arguments, Stdio::null())?)
     }
 
     /// A message on standard error, no answer, and the exit status where that
     /// tells.
-    fn tells_failure(&self, arguments: &[&OsStr], input: Stdio) -> io::Result<()> {
-        let child = self.spawn(arguments, input)?;
+    fn tells_failure(&self, child: Child) -> io::Result<()> {
         let output = self.output(child, || Ok(()))?;
         let told = output.answer.is_empty() && !output.message.is_empty();
         if !told || (self.tells && output.status.code() != Some(2)) {
@@ -118,18 +129,45 @@ impl Program {
         Ok(())
     }
 
+    /// Holds the program to what it prints for an argument that asks for it: on
+    /// standard output, and beginning so.
+    pub fn prints(&self, argument: &str, start: &str) -> io::Result<()> {
+        let child = self.spawn(&[OsStr::new(argument)], Stdio::null())?;
+        let output = self.output(child, || Ok(()))?;
+        let said = output.answer.starts_with(start.as_bytes()) && output.answer.ends_with(b"\n");
+        if !said || !output.message.is_empty() || !output.status.success() {
+            return Err(output.failure());
+        }
+        Ok(())
+    }
+
+    /// Holds the program to what it says of arguments with which it can't do
+    /// anything: one line, behind its name.
+    pub fn complains(&self, arguments: &[&str]) -> io::Result<()> {
+        let arguments: Vec<&OsStr> = arguments.iter().map(OsStr::new).collect();
+        let output = self.output(self.spawn(&arguments, Stdio::null())?, || Ok(()))?;
+        let message = String::from_utf8_lossy(&output.message);
+        let said = message.starts_with(&format!("{}: ", self.name())) && message.ends_with('\n');
+        if !said || message.lines().count() != 1 || !output.answer.is_empty() {
+            return Err(output.failure());
+        }
+        Ok(())
+    }
+
+    /// The file's name.
+    pub fn name(&self) -> String {
+        let name = self.path.file_name().unwrap_or_default();
+        name.to_string_lossy().into_owned()
+    }
+
     /// Whether its exit status tells the answer.
     pub fn tells(&self) -> bool {
         self.tells
     }
 
     fn spawn(&self, arguments: &[&OsStr], input: Stdio) -> io::Result<Child> {
-        Command::new(&self.path)
-            .args(arguments)
-            .stdin(input)
-            .stdout(Stdio::piped())
-            .stderr(Stdio::piped())
-            .spawn()
+        let mut program = Command::new(&self.path);
+        piped(program.args(arguments), input).spawn()
     }
 
     /// Gives the program its input, in a thread of its own, and waits for what
@@ -171,6 +209,12 @@ impl Output {
         let message = String::from_utf8_lossy(&self.message);
         io::Error::other(format!("{}: {}", self.status, message.trim_end()))
     }
+}
+
+/// The command with this input, and with both outputs to be read.
+fn piped(command: &mut Command, input: Stdio) -> &mut Command {
+    let outputs = command.stdout(Stdio::piped()).stderr(Stdio::piped());
+    outputs.stdin(input)
 }
 
 /// Feeds the program and reads what it prints on both outputs.

@@ -2,6 +2,7 @@
 
 mod common;
 
+use std::fs;
 use std::thread;
 use std::time::Duration;
 
@@ -54,13 +55,13 @@ fn differences_are_found_printed_and_kept() {
     assert!(printed(&output).contains("  second:    refused 8 "));
 
     // The kept texts are examples: the wrong program fails them all, and the
-    // second checker passes them. Both tell a failed read.
+    // second checker passes them. Both tell three failures.
     let output = compare(&[&program, "--examples", keep]);
-    assert_eq!(last_line(&output), "1 passed, 10 failed");
+    assert_eq!(last_line(&output), "3 passed, 10 failed");
     assert_eq!(output.status.code(), Some(1));
     let right = script(&folder, "SECOND");
     let output = compare(&[&right, "--examples", keep]);
-    assert_eq!(last_line(&output), "11 passed, 0 failed");
+    assert_eq!(last_line(&output), "13 passed, 0 failed");
     assert!(output.status.success());
 }
 
@@ -154,6 +155,51 @@ fn an_exit_status_that_tells_is_compared() {
         printed.contains("standard input that can't be read"),
         "{printed}"
     );
+}
+
+#[test]
+fn closed_ends_have_to_be_told() {
+    let folder = folder("closed");
+    let examples = concat!(env!("CARGO_MANIFEST_DIR"), "/../../examples");
+    for (commands, what) in [
+        ("exec < /dev/null; SECOND", "standard input that is closed"),
+        ("SECOND > /dev/null", "standard output that is closed"),
+    ] {
+        // Without the test that a program of shell commands begins with.
+        let program = script(&folder, commands);
+        let lines = fs::read_to_string(&program).unwrap();
+        let lines: Vec<&str> = lines
+            .lines()
+            .filter(|line| !line.contains("exit 2"))
+            .collect();
+        fs::write(&program, lines.join("\n")).unwrap();
+        let output = compare(&[&program, "--examples", examples]);
+        assert!(printed(&output).contains(what), "{what}");
+    }
+}
+
+#[test]
+fn help_version_and_messages_are_held_to_their_places() {
+    let folder = folder("arguments");
+    let help = "[ \"$*\" = --help ] && { echo usage: program TEXT; exit; }; ";
+    let version = "[ \"$*\" = --version ] && { echo program 0.1; exit; }; ";
+    let rest = "echo program: no such argument >&2";
+    let right = [help, version, rest].concat();
+    for (commands, counts) in [
+        (right.clone(), "4 passed, 0 failed"),
+        ([help, rest].concat(), "3 passed, 1 failed"),
+        ([version, rest].concat(), "3 passed, 1 failed"),
+        (right.replace("program:", "other:"), "2 passed, 2 failed"),
+        (right.replace(" >&2", ""), "2 passed, 2 failed"),
+        (
+            right.replace("; exit;", " >&2; exit;"),
+            "2 passed, 2 failed",
+        ),
+    ] {
+        let program = script(&folder, &commands);
+        let output = compare(&[&program, "--arguments"]);
+        assert_eq!(last_line(&output), counts, "{commands}");
+    }
 }
 
 #[test]

@@ -1,9 +1,14 @@
 //! `docs/GUIDE.md` quotes the examples as they are, and what it says of mended
 //! texts holds. `docs/TEXT-FORM.md` has its numbers, limits and corners right.
 
-use std::fs;
-use std::path::{Path, PathBuf};
+mod common;
 
+use std::fs;
+use std::os::unix::fs::symlink;
+use std::path::{Path, PathBuf};
+use std::process::{Command, Output};
+
+use common::{folder, printed, script};
 use compare::examples::{read_examples, read_job_examples};
 use compare::{second_answer, shown};
 use second::generate::model::{used_numbers, RULES};
@@ -52,9 +57,9 @@ fn texts_are_quoted_as_they_are() {
         rest = after;
     }
     // C1, the inputs that are used, the rules, those for provers, the refusals
-    // but the first, the paper's proof, the survey. inh, inp and 9 have two. A
-    // base and two jobs.
-    assert_eq!(texts, 1 + 1 + (12 + 2) + 2 + (10 + 1) + 1 + 3 + 3);
+    // but the first, the paper's proof, the survey. par, inh, inp, 8, 9 and 10
+    // have two. A base and two jobs.
+    assert_eq!(texts, 1 + 1 + (12 + 3) + 3 + (10 + 3) + 1 + 3 + 3);
 }
 
 #[test]
@@ -100,7 +105,101 @@ fn mended_texts_get_the_answer_that_is_named() {
         assert_eq!(shown(&second_answer(text.as_bytes())), answer, "{name}");
         mended += 1;
     }
-    assert_eq!(mended, 11);
+    assert_eq!(mended, 13);
+}
+
+/// The guide's commands that begin so, up to an end, run in a folder.
+fn run(folder: &Path, start: &str, end: &str) -> Output {
+    let guide = fs::read_to_string(root().join("docs/GUIDE.md")).unwrap();
+    let (commands, _) = between(&guide, &format!("\n{start}"), end).unwrap();
+    let mut shell = Command::new("sh");
+    let shell = shell.arg("-c").arg([start, commands].concat());
+    shell.current_dir(folder).output().unwrap()
+}
+
+#[test]
+fn the_loop_over_files_names_those_without_an_accepted_answer() {
+    let folder = folder("loop");
+    fs::create_dir_all(folder.join("target/bin")).unwrap();
+    fs::rename(script(&folder, "SECOND"), folder.join("target/bin/fcheck")).unwrap();
+    for name in ["c01", "c02", "c04"] {
+        let file = folder.join(name).with_extension("flogic");
+        fs::write(file, example(name).0).unwrap();
+    }
+    // One that can't be read, and one that isn't there.
+    fs::create_dir(folder.join("c05.flogic")).unwrap();
+    symlink("nowhere", folder.join("c06.flogic")).unwrap();
+    let output = printed(&run(&folder, "for text in", "```"));
+    let expected = "c01.flogic: refuted 5 4 rests 0 1 2\nc02.flogic: refused 10 8\n\
+                    c04.flogic: open 0\nc05.flogic: no answer\nc06.flogic: no answer\n";
+    assert_eq!(output, expected);
+    let named = |name: &str| fs::read_to_string(folder.join(name)).unwrap();
+    assert_eq!(named("refused.txt"), "c02.flogic\n");
+    assert_eq!(named("unread.txt"), "c05.flogic\nc06.flogic\n");
+}
+
+#[test]
+fn files_from_windows_are_mended_as_the_guide_says() {
+    let folder = folder("windows");
+    symlink(root().join("examples"), folder.join("examples")).unwrap();
+    for (name, command) in [
+        ("refused-02-return", "tr -d "),
+        ("refused-02-mark", "tail -c "),
+    ] {
+        assert!(run(&folder, command, "\n").status.success(), "{command}");
+        let mended = fs::read_to_string(folder.join("mended.flogic")).unwrap();
+        let (text, answer) = example(name);
+        assert_eq!(mended, example("c01").0, "{command}");
+        assert_ne!(mended, text);
+        assert_eq!(answer, "refused 2 1");
+    }
+}
+
+#[test]
+fn occurrences_of_a_method_atom_are_numbered_as_the_guide_says() {
+    let guide = fs::read_to_string(root().join("docs/GUIDE.md")).unwrap();
+    let (table, _) = between(
+        &guide,
+        "| K | occurrence | where |\n|---|---|---|\n",
+        "\n\n",
+    )
+    .unwrap();
+    let (text, _) = example("rule-par-method");
+    let (start, _) = text.split_once("(in (or (+ (eq").unwrap();
+    // A claim that is no clause of par's passes the checks before 11.
+    let answer = |k: usize, term: &str| {
+        let list = if term == "(v 0)" {
+            "(let (v 0))"
+        } else {
+            "(let)"
+        };
+        let equation = format!("(in (or (+ (eq {term} (f 5)))))");
+        let step = format!("(by par 0 0 1 0 {k} (let (v 0)) {list} (or))");
+        shown(&second_answer(
+            format!("{start}{equation}\n{step}\n").as_bytes(),
+        ))
+    };
+    for (k, row) in table.lines().enumerate() {
+        let cells: Vec<&str> = row.split('|').map(str::trim).collect();
+        assert_eq!(cells[1], k.to_string());
+        assert_eq!(
+            answer(k, cells[2].trim_matches('`')),
+            "refused 11 9",
+            "{row}"
+        );
+    }
+    let rows = table.lines().count();
+    assert!(guide.contains(&format!("There is no occurrence {rows},")));
+    assert_eq!(answer(rows, "(f 0)"), "refused 9 9");
+}
+
+#[test]
+fn the_version_is_that_of_the_last_change() {
+    let changes = fs::read_to_string(root().join("docs/CHANGES.md")).unwrap();
+    let headings = changes.lines().filter_map(|line| line.strip_prefix("## "));
+    let (number, _) = headings.last().unwrap().split_once('.').unwrap();
+    let source = fs::read_to_string(root().join("crates/console/src/lib.rt")).unwrap();
+    assert!(source.contains(&format!("b\" 0.{number}\\n\"")), "{number}");
 }
 
 #[test]

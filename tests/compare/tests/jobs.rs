@@ -49,12 +49,12 @@ fn differing_pairs_are_found_printed_and_kept() {
     assert!(output.contains("  program:   refused 4 "));
     assert!(output.contains("  second:    open "));
 
-    // The kept pairs are examples. Both tell five failures.
+    // The kept pairs are examples. Both tell seven failures.
     let output = compare(&[&wrong, "--job-examples", keep]);
-    assert_eq!(last_line(&output), "5 passed, 10 failed");
+    assert_eq!(last_line(&output), "7 passed, 10 failed");
     let program = script(&folder, &right());
     let output = compare(&[&program, "--job-examples", keep]);
-    assert_eq!(last_line(&output), "15 passed, 0 failed");
+    assert_eq!(last_line(&output), "17 passed, 0 failed");
 }
 
 #[test]

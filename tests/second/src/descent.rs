@@ -3,9 +3,11 @@
 /// The numbers of a step's used parents.
 pub(crate) type Parents = [Option<usize>; 2];
 
-/// "the input clauses from which its first empty clause descends through used
-/// parents, itself if it is an input", rising. The clauses below `inputs` are
-/// the inputs, and `parents` has those of each step behind them.
+/// V30: "the input clauses from which its first empty clause descends. A clause
+/// descends from itself, and the clause of a step descends from what a used
+/// parent (R6) of the step descends from. The numbers are given rising, each
+/// once." The clauses below `inputs` are the inputs, and `parents` has those of
+/// each step behind them.
 ///
 /// A parent's number is below its step's own, so one walk from the empty clause
 /// back to the first step comes to each clause after all that use it.

@@ -1,8 +1,8 @@
 //! A second, independent checker for the text format of F-logic derivations
 //! that `docs/TEXT-FORM.md` states, and a seeded generator of test texts for it.
 //!
-//! The checker is written from that statement alone. Each item
-//! names the sentence it implements.
+//! The checker is written from that page alone. Quotations are its sentences,
+//! each behind the number of the statement that it stands in.
 //!
 //! * [`syntax`]: terms, literals, clauses and lines, as kept in memory;
 //! * `parser`: one line of text to its syntax (check 2);
@@ -26,42 +26,43 @@ use reading::Reading;
 
 pub use job::check_job;
 
-/// "Limits, besides that depth: 65,535 bytes".
+/// T18: "bytes of a text", at most.
 pub const MAX_BYTES: usize = 65_535;
-/// "1,024 lines".
+/// T18: "lines of a text".
 pub const MAX_LINES: usize = 1_024;
-/// "256 symbols".
+/// T18: "symbols".
 pub const MAX_SYMBOLS: usize = 256;
-/// "K of a sym line 8".
+/// T18: "K of a sym line".
 pub const MAX_ARITY: u16 = 8;
-/// "8 method arguments".
+/// T18: "arguments of a method".
 pub const MAX_ARGUMENTS: u16 = 8;
-/// "32 literals a clause".
+/// T18: "literals of a clause".
 pub const MAX_LITERALS: usize = 32;
-/// "variables 0 to 31".
+/// T18: "a variable's number".
 pub const MAX_VARIABLE: u16 = 31;
-/// "32 terms a LET".
+/// T18: "terms of a LET".
 pub const MAX_LIST_TERMS: usize = 32;
-/// "Terms nest at most 16 terms deep, the outermost counting as 1".
+/// T12: "Terms nest at most 16 terms deep, the outermost counting as 1."
 pub const MAX_DEPTH: usize = 16;
 
-/// The verdict on a whole text (section "The verdict").
+/// The verdict on a whole text (V1 to V3).
 #[derive(Clone, Copy, Debug, PartialEq, Eq)]
 pub enum Verdict {
-    /// "`Refuted(count, first)`: accepted, count is the number of clauses,
-    /// first the number of the first empty one."
+    /// V1: "`Refuted(count, first)`: the text is accepted, count is the number
+    /// of its clauses, and first is the number of the first empty one."
     Refuted { count: usize, first: usize },
-    /// "`Open(count)`: accepted, none empty."
+    /// V2: "`Open(count)`: the text is accepted, count is the number of its
+    /// clauses, and none is empty."
     Open { count: usize },
-    /// "`Refused(number, line)`: the first failing line, its first failing
-    /// check".
+    /// V3: "`Refused(number, line)`: line is the first line that fails a
+    /// check, number the first check that it fails."
     Refused { number: u8, line: usize },
 }
 
 impl fmt::Display for Verdict {
-    /// "The program `fcheck` reads standard input and prints one line: the
-    /// word refuted, open or refused, then the verdict's numbers." This is the
-    /// answer's first line, without its line end.
+    /// V27: "prints one line: the word refuted, open or refused, and then the
+    /// numbers of the verdict." V28: "That line has one space before each
+    /// number". It is the answer's first line, without its line end.
     fn fmt(&self, f: &mut fmt::Formatter<'_>) -> fmt::Result {
         match self {
             Verdict::Refuted { count, first } => write!(f, "refuted {count} {first}"),
@@ -75,15 +76,15 @@ impl fmt::Display for Verdict {
 #[derive(Clone, Debug, PartialEq, Eq)]
 pub struct Answer {
     pub verdict: Verdict,
-    /// "A refuted answer shall also name the input clauses from which its first
-    /// empty clause descends through used parents, itself if it is an input":
-    /// their numbers, rising. Other answers name none.
+    /// V30: "A refuted answer also names the input clauses from which its first
+    /// empty clause descends." Here are their numbers. "Other answers name
+    /// none."
     pub rests: Vec<usize>,
 }
 
 impl fmt::Display for Answer {
-    /// "`fcheck` prints them on a second line, `rests`, then the numbers
-    /// rising." The last line end is left to the caller.
+    /// V31: "For a refuted text `fcheck` prints a second line: the word rests,
+    /// and then these numbers". The last line end is left to the caller.
     fn fmt(&self, f: &mut fmt::Formatter<'_>) -> fmt::Result {
         write!(f, "{}", self.verdict)?;
         if matches!(self.verdict, Verdict::Refuted { .. }) {
@@ -104,35 +105,35 @@ impl From<Verdict> for Answer {
     }
 }
 
-/// The eleven checks, with the numbers that the section "The verdict" gives
-/// them. A `Check` returned as an error is the check that failed.
+/// The eleven checks, with the numbers that V11 to V21 give them. A `Check`
+/// returned as an error is the check that failed.
 #[derive(Clone, Copy, Debug, PartialEq, Eq)]
 #[repr(u8)]
 pub(crate) enum Check {
-    /// "The text has too many bytes or lines, line 0."
+    /// V11: "the text has too many bytes or lines; the line is 0".
     Size = 1,
-    /// "The line isn't a form."
+    /// V12: "the line isn't a form".
     Form = 2,
-    /// "A sym line comes after some in or by line, or an in line after some
-    /// by line."
+    /// V13: "a sym line comes after some in or by line, or an in line after
+    /// some by line".
     Order = 3,
-    /// "An in or by line comes with no symbol of K = 0 declared, or, with
-    /// line 0 and tested after all lines have passed, the text ends so."
+    /// V14: "an in or by line comes with no symbol of K = 0 declared; or the
+    /// text ends so: line 0, tested after all lines have passed".
     Constant = 4,
-    /// "Another limit is passed."
+    /// V15: "another limit is passed".
     Limit = 5,
-    /// "An applied symbol isn't declared or has another number of terms."
+    /// V16: "an applied symbol isn't declared, or has another number of terms".
     Symbol = 6,
-    /// "A used parent number isn't below the step's own."
+    /// V17: "the number of a used parent isn't below the step's own".
     Parent = 7,
-    /// "An unused number isn't 0, or a list has the wrong length."
+    /// V18: "an unused number isn't 0, or a list has the wrong length".
     Unused = 8,
-    /// "A position, sign, atom kind, result, K or pair I, J isn't as the
-    /// rule's shape says."
+    /// V19: "a position, sign, kind of atom, result, K, or pair I, J isn't as
+    /// the rule's shape says".
     Shape = 9,
-    /// "The agreement fails."
+    /// V20: "the agreement fails".
     Agreement = 10,
-    /// "The claim isn't the rule's."
+    /// V21: "the claim isn't the rule's".
     Claim = 11,
 }
 
@@ -155,8 +156,9 @@ impl Check {
 
 /// Checks a whole text and gives its answer.
 ///
-/// "`Refused(number, line)`: the first failing line, its first failing
-/// check; the text is only read."
+/// V3: "line is the first line that fails a check, number the first check that
+/// it fails. A text is accepted exactly when no check fails." V4: "The text is
+/// only read."
 pub fn check(text: &[u8]) -> Answer {
     if text.len() > MAX_BYTES || lines(text).count() > MAX_LINES {
         return Check::Size.refuse(0);
@@ -164,8 +166,8 @@ pub fn check(text: &[u8]) -> Answer {
     read(text)
 }
 
-/// The lines of a text. Each keeps its line end; "Bytes after the last line end
-/// form one more line", which is then the only one without.
+/// T1: "Every line ends with byte 10". T2: "Bytes after the last line end are
+/// one more line". Each keeps its line end, and that one has none.
 fn lines(text: &[u8]) -> impl Iterator<Item = &[u8]> {
     text.split_inclusive(|&byte| byte == b'\n')
 }

@@ -1,4 +1,5 @@
-//! One line of text to its syntax (check 2, "The line isn't a form").
+//! One line of text to its syntax (V12: "the line isn't a form"), by the grammar
+//! of T6.
 //!
 //! Every function takes the bytes it has read off the front of the cursor.
 //! `None` means that the line isn't a form.
@@ -6,7 +7,7 @@
 use crate::syntax::{Arrow, Clause, Head, Line, Node, Rule, Step, Substitution};
 use crate::MAX_DEPTH;
 
-/// Reads a line without its line end: "One form a line, nested brackets".
+/// Reads a line without its line end. T1: "is one form, of nested brackets".
 pub(crate) fn parse_line(line: &[u8]) -> Option<Line> {
     let mut cursor = Cursor { rest: line };
     let form = cursor.line()?;
@@ -19,8 +20,8 @@ struct Cursor<'a> {
 }
 
 impl<'a> Cursor<'a> {
-    /// Reads exactly these bytes. "One space between items, none inside a
-    /// bracket's ends" holds because every space is asked for by name.
+    /// Reads exactly these bytes. T3: "One space stands between two items, and
+    /// none inside the ends of a bracket." So every space is asked for by name.
     fn expect(&mut self, bytes: &[u8]) -> Option<()> {
         self.rest = self.rest.strip_prefix(bytes)?;
         Some(())
@@ -44,7 +45,7 @@ impl<'a> Cursor<'a> {
         self.take_while(u8::is_ascii_lowercase)
     }
 
-    /// "A number N is decimal, 0 to 65,535, without leading zeros."
+    /// T4: "A number N is decimal, 0 to 65,535, without leading zeros."
     fn number(&mut self) -> Option<u16> {
         match self.take_while(u8::is_ascii_digit) {
             [] | [b'0', _, ..] => None,
@@ -54,7 +55,7 @@ impl<'a> Cursor<'a> {
         }
     }
 
-    /// One of the three forms of a line.
+    /// One of the three forms of a line (T7 to T9).
     fn line(&mut self) -> Option<Line> {
         self.expect(b"(")?;
         let word = self.word();
@@ -69,8 +70,9 @@ impl<'a> Cursor<'a> {
         Some(line)
     }
 
-    /// "`(by RULE A I B J K LET LET CLAUSE)`: a step; the claim begins
-    /// wherever the second list ends", from the rule's word on.
+    /// T9: "`(by RULE A I B J K LET LET CLAUSE)` is a step. Its two lists are
+    /// followed by the clause that it claims, which begins wherever the second
+    /// list ends." It is read from the rule's word on.
     fn step(&mut self) -> Option<Step> {
         let rule = rule(self.word())?;
         let mut numbers = [0; 5];
@@ -92,7 +94,7 @@ impl<'a> Cursor<'a> {
         })
     }
 
-    /// "LET is `(let TERM ...)`, perhaps `(let)`."
+    /// The form `let` of T6.
     fn list(&mut self) -> Option<Substitution> {
         let mut list = Substitution::default();
         self.expect(b"(let")?;
@@ -104,8 +106,8 @@ impl<'a> Cursor<'a> {
         Some(list)
     }
 
-    /// "CLAUSE is `(or LIT ...)`, perhaps `(or)`. LIT is `(+ ATOM)` or
-    /// `(- ATOM)`."
+    /// T16: "`(or LIT ...)` is the clause of these literals, `(or)` the empty
+    /// one. `(+ ATOM)` is a positive literal, `(- ATOM)` a negative one."
     fn clause(&mut self) -> Option<Clause> {
         let mut clause = Clause::default();
         self.expect(b"(or")?;
@@ -122,8 +124,9 @@ impl<'a> Cursor<'a> {
         Some(clause)
     }
 
-    /// "ATOM: `(eq T U)` equality; `(mem T U)` T : U; `(sub T U)` T :: U;
-    /// `(obj T)` T[]; `(ARROW O M (T ...) R)`". The terms go to `nodes`.
+    /// T13: "`(eq T U)` is equality; `(mem T U)` is T : U; `(sub T U)` is T ::
+    /// U; `(obj T)` is T[]; `(ARROW O M (T ...) R)` has the object O". The
+    /// terms go to `nodes`.
     fn atom(&mut self, nodes: &mut Vec<Node>) -> Option<Head> {
         self.expect(b"(")?;
         let head = match self.word() {
@@ -146,8 +149,8 @@ impl<'a> Cursor<'a> {
         Some(head)
     }
 
-    /// "object O, method M, arguments (perhaps `()`), result R", from the
-    /// space before the object on.
+    /// T13: "the object O, the method M, the arguments T ..., perhaps none at
+    /// all, and the result R", from the space before the object on.
     fn method(&mut self, nodes: &mut Vec<Node>, arrow: Arrow) -> Option<Head> {
         self.expect(b" ")?;
         self.term(nodes, MAX_DEPTH)?;
@@ -177,10 +180,9 @@ impl<'a> Cursor<'a> {
         })
     }
 
-    /// "A term is `(v N)`, a variable, or `(f N TERM ...)`, symbol N applied.
-    /// Terms nest at most 16 terms deep, the outermost counting as 1; a
-    /// deeper one isn't a form." The term goes to `nodes`; `depth` is the
-    /// number of levels left, this term's included.
+    /// T11: "`(v N)` is variable N. `(f N TERM ...)` is symbol N applied to the
+    /// terms." T12: "A line with a deeper term isn't a form." The term goes to
+    /// `nodes`; `depth` is the number of levels left, this term's included.
     fn term(&mut self, nodes: &mut Vec<Node>, depth: usize) -> Option<()> {
         let below = depth.checked_sub(1)?;
         if self.accept(b"(v ") {
@@ -201,7 +203,8 @@ impl<'a> Cursor<'a> {
     }
 }
 
-/// "RULE is a word of the rule table below, any other isn't a form".
+/// T10: "RULE is one of the twelve words (R8 to R19). A line with any other
+/// isn't a form."
 fn rule(word: &[u8]) -> Option<Rule> {
     Some(match word {
         b"refl" => Rule::Reflexivity,
@@ -220,7 +223,7 @@ fn rule(word: &[u8]) -> Option<Rule> {
     })
 }
 
-/// The word of an arrow.
+/// The word of an arrow (T14).
 fn arrow(word: &[u8]) -> Option<Arrow> {
     Some(match word {
         b"sv" => Arrow::ScalarValue,

@@ -9,8 +9,8 @@ use crate::{
     MAX_VARIABLE,
 };
 
-/// "After each line the reading holds the argument counts of up to 256
-/// symbols and the place of every clause." Here the clauses themselves are
+/// T19: "After each line the reading holds the argument counts of up to 256
+/// symbols, and the place of every clause." Here the clauses themselves are
 /// held, so that no line is read twice.
 #[derive(Default)]
 pub(crate) struct Reading {
@@ -26,11 +26,12 @@ pub(crate) struct Reading {
 
 impl Reading {
     /// Runs checks 2 to 11 on the next line, given with its line end, and
-    /// takes the line in if it passes them all. The checks are done in the
-    /// order of their numbers, each over the whole line.
+    /// takes the line in if it passes them all. V3: "number the first check that
+    /// it fails". So they are made in the order of their numbers, each over the
+    /// whole line.
     pub(crate) fn read_line(&mut self, line: &[u8]) -> Result<(), Check> {
-        // "Bytes after the last line end form one more line, which isn't a
-        // form."
+        // T2: "Bytes after the last line end are one more line, and that line
+        // isn't a form."
         let form = line.strip_suffix(b"\n").and_then(parse_line);
         match form.ok_or(Check::Form)? {
             Line::Symbol(arity) => self.declare_symbol(arity),
@@ -54,8 +55,8 @@ impl Reading {
         }
     }
 
-    /// "`(sym K)`: the next symbol of the symbol table, counted from 0, takes
-    /// K terms."
+    /// T7: "`(sym K)` declares the next symbol of the symbol table, counted from
+    /// 0. It takes K terms."
     fn declare_symbol(&mut self, arity: u16) -> Result<(), Check> {
         Check::Order.require(self.clauses.is_empty())?;
         Check::Limit.require(self.arities.len() < MAX_SYMBOLS && arity <= MAX_ARITY)?;
@@ -63,7 +64,7 @@ impl Reading {
         Ok(())
     }
 
-    /// "`(in CLAUSE)`: an input clause."
+    /// T8: "`(in CLAUSE)` is an input clause."
     fn take_input(&mut self, clause: Clause) -> Result<(), Check> {
         Check::Order.require(self.parents.is_empty())?;
         self.require_constant()?;
@@ -73,7 +74,7 @@ impl Reading {
         Ok(())
     }
 
-    /// A by line.
+    /// A by line (T9).
     fn take_step(&mut self, step: Step) -> Result<(), Check> {
         let Step { lists, claim, .. } = &step;
         self.require_constant()?;
@@ -93,7 +94,7 @@ impl Reading {
         Ok(())
     }
 
-    /// "Clauses (in and by lines) are numbered from 0".
+    /// T17: "Clauses, of in and by lines together, are numbered from 0."
     fn add_clause(&mut self, clause: Clause) {
         if clause.is_empty() && self.first_empty.is_none() {
             self.first_empty = Some(self.clauses.len());
@@ -101,12 +102,13 @@ impl Reading {
         self.clauses.push(clause);
     }
 
-    /// Check 4: some symbol of K = 0 is declared.
+    /// V14, check 4: some symbol of K = 0 is declared.
     fn require_constant(&self) -> Result<(), Check> {
         Check::Constant.require(self.arities.contains(&0))
     }
 
-    /// Check 6: each applied symbol is declared and has its number of terms.
+    /// V16, check 6: each applied symbol is declared and has its number of
+    /// terms.
     fn symbols_fit(&self, nodes: &[Node]) -> bool {
         nodes.iter().all(|node| match *node {
             Node::Variable(_) => true,
@@ -117,7 +119,7 @@ impl Reading {
     }
 }
 
-/// "8 method arguments, 32 literals a clause, variables 0 to 31".
+/// T18: "arguments of a method", "literals of a clause", "a variable's number".
 fn clause_within_limits(clause: &Clause) -> bool {
     let arguments_fit = |head| match head {
         Head::Method { arguments, .. } => arguments <= MAX_ARGUMENTS,
@@ -128,7 +130,7 @@ fn clause_within_limits(clause: &Clause) -> bool {
         && variables_within_limit(clause.nodes())
 }
 
-/// "variables 0 to 31".
+/// T18: "a variable's number".
 fn variables_within_limit(nodes: &[Node]) -> bool {
     nodes.iter().all(|node| match *node {
         Node::Variable(number) => number <= MAX_VARIABLE,

@@ -1,4 +1,4 @@
-//! The twelve rules (section "The rules"), checks 7 to 11.
+//! The twelve rules (R8 to R19), checks 7 to 11 (V17 to V21).
 //!
 //! Nothing is copied to be filled: a filled part of a clause is walked node
 //! by node, with the list's terms put in for variables on the way.
@@ -29,12 +29,13 @@ pub(crate) fn check_step(step: &Step, clauses: &[Clause]) -> Result<(), Check> {
     let first = Parent::new(parent(a_used, a)?, first_list);
     let second = Parent::new(parent(b_used, b)?, second_list);
 
-    // "Unused numbers among A I B J K are 0".
+    // R7: "Numbers that a rule doesn't use are 0."
     for (used, number) in used.into_iter().zip(step.numbers) {
         Check::Unused.require(used || number == 0)?;
     }
-    // "A used parent's list has exactly its highest variable plus 1 terms (0
-    // without variables); an unused one's has none, save for refl."
+    // R3: "The list of a used parent has exactly as many terms as the parent's
+    // highest variable plus 1, and 0 where it has no variable. The list of an
+    // unused parent has none, but for refl, whose first list has one term T."
     let first_length = match step.rule {
         Rule::Reflexivity => 1,
         _ => first.clause.variable_bound(),
@@ -44,16 +45,16 @@ pub(crate) fn check_step(step: &Step, clauses: &[Clause]) -> Result<(), Check> {
 
     let conclusion = conclude(step.rule, first, second, [i, j, k])?;
 
-    // "The claim, all of it filled, is the new literal if any, A's other
-    // literals, then B's other literals, in order."
+    // R21: "The claim, all of it filled, is the new literal, if there is one,
+    // then A's other literals, then B's other literals, in order."
     let expected = (conclusion.new.into_iter())
         .chain(first.without(conclusion.dropped))
         .chain(second.without(j));
     Check::Claim.require(is_claim(&step.claim, expected))
 }
 
-/// "a second table says which numbers each of the twelve rules uses": for
-/// each of A I B J K, whether the rule uses it.
+/// R6: "Which numbers each rule uses": for each of A I B J K, whether the rule
+/// uses it.
 fn uses(rule: Rule) -> [bool; 5] {
     const NO: bool = false;
     const YES: bool = true;
@@ -89,8 +90,8 @@ struct Conclusion<'a> {
     dropped: usize,
 }
 
-/// Checks 9 and 10: one arm for each row of the rule table. In each arm the
-/// whole shape is tested before the agreement.
+/// Checks 9 and 10: one arm for each row of the rule table, R8 to R19. In each
+/// arm the whole shape is tested before the agreement.
 fn conclude<'a>(
     rule: Rule,
     a: Parent<'a>,
@@ -99,7 +100,8 @@ fn conclude<'a>(
 ) -> Result<Conclusion<'a>, Check> {
     let mut dropped = i;
     let new = match rule {
-        // refl: "no parent; first list one term T", new "+ sub(T,T)".
+        // R8, refl: "no parent; the first list has one term T", new
+        // "+ sub(T,T)".
         Rule::Reflexivity => {
             let term = Filled {
                 nodes: &[Node::Variable(0)],
@@ -107,16 +109,18 @@ fn conclude<'a>(
             };
             Some(FilledLiteral::pair(Head::Subclass, term, term))
         }
-        // res: "- L at I, + L' at J", "L' covers L".
+        // R9, res: "- L, + L'", "L' covers L". R23: "res and eli drop the
+        // literals that they name."
         Rule::Resolution => {
             let (first, second) = (a.premise(i)?, b.premise(j)?);
             Check::Shape.require(!first.literal.positive && second.literal.positive)?;
             Check::Agreement.require(second.covers(first))?;
             None
         }
-        // fac: "A only; I, J differ, same sign", "literal J covers literal
-        // I". "For fac it is A without literal J (positive) or without
-        // literal I (negative)."
+        // R10, fac: "A only; I and J differ, both literals have the same sign",
+        // "the literal at J covers the one at I". R22: "For fac the claim is A
+        // without the literal at J where the two are positive, and without the
+        // literal at I where they are negative."
         Rule::Factoring => {
             let (first, second) = (a.premise(i)?, a.premise(j)?);
             let positive = first.literal.positive;
@@ -125,36 +129,36 @@ fn conclude<'a>(
             dropped = if positive { j } else { i };
             None
         }
-        // par: "L at I, term occurrence K in it; + eq(S,U) at J", "occurrence
-        // = S", new "L with that occurrence replaced by U".
+        // R11, par: "a literal L, with term occurrence K in it, + eq(S,U)", "the
+        // occurrence is S", new "L with that occurrence replaced by U".
         Rule::Paramodulation => {
             let first = a.premise(i)?;
             let occurrence = first.literal.occurrence(k).ok_or(Check::Shape)?;
             let [from, to] = b.premise(j)?.positive_pair(Head::Equality)?;
             Some(first.replace(occurrence, from, to)?)
         }
-        // acy: "+ sub(P,Q), + sub(Q',P')", "P=P', Q=Q'", new "+ eq(P,Q)".
+        // R12, acy: "+ sub(P,Q), + sub(Q',P')", "P = P', Q = Q'", new
+        // "+ eq(P,Q)".
         Rule::Acyclicity => {
             let [p, q] = a.premise(i)?.positive_pair(Head::Subclass)?;
             let [other_q, other_p] = b.premise(j)?.positive_pair(Head::Subclass)?;
             Check::Agreement.require(p.equals(other_p) && q.equals(other_q))?;
             Some(FilledLiteral::pair(Head::Equality, p, q))
         }
-        // tra: "+ sub(P,Q), + sub(Q',R)", "Q=Q'", new "+ sub(P,R)".
+        // R13, tra: "+ sub(P,Q), + sub(Q',R)", "Q = Q'", new "+ sub(P,R)".
         Rule::Transitivity => Some(chain(Head::Subclass, a.premise(i)?, b.premise(j)?)?),
-        // inc: "+ mem(P,Q), + sub(Q',R)", "Q=Q'", new "+ mem(P,R)".
+        // R14, inc: "+ mem(P,Q), + sub(Q',R)", "Q = Q'", new "+ mem(P,R)".
         Rule::Inclusion => Some(chain(Head::Membership, a.premise(i)?, b.premise(j)?)?),
-        // inh: "+ st or mt with object P and a term result or none, + sub(S,P')",
-        // "P=P'", new "first, object S". "inh and inp take none as a result and
-        // keep it."
+        // R15, inh: "+ st or mt with object P and a term result or none, +
+        // sub(S,P')", "P = P'", new "the first, with object S".
         Rule::SignatureInheritance => {
             let first = a.premise(i)?;
             first.signature_arguments()?;
             let [lower, upper] = b.premise(j)?.positive_pair(Head::Subclass)?;
             Some(first.replace(first.place(OBJECT)?, upper, lower)?)
         }
-        // inp: "+ st or mt with a term result or none and an argument K, +
-        // sub(S,Q)", "argument K = Q", new "first, argument K is S".
+        // R16, inp: "+ st or mt with a term result or none and an argument K, +
+        // sub(S,Q)", "argument K is Q", new "the first, with S as argument K".
         Rule::InputRestriction => {
             let first = a.premise(i)?;
             let arguments = first.signature_arguments()?;
@@ -162,17 +166,16 @@ fn conclude<'a>(
             let [lower, upper] = b.premise(j)?.positive_pair(Head::Subclass)?;
             Some(first.replace(first.place(ARGUMENTS + k)?, upper, lower)?)
         }
-        // out: "+ st or mt with a term result R, + sub(R',S)", "R=R'", new
-        // "first, result S". "out still needs a term": with none there is no
-        // place for one.
+        // R17, out: "+ st or mt with a term result R, + sub(R',S)", "R = R'",
+        // new "the first, with result S". With none there is no place for R.
         Rule::OutputRelaxation => {
             let first = a.premise(i)?;
             let arguments = first.signature_arguments()?;
             let [lower, upper] = b.premise(j)?.positive_pair(Head::Subclass)?;
             Some(first.replace(first.place(ARGUMENTS + arguments)?, lower, upper)?)
         }
-        // sca: "two + sv or si atoms, results R, R'", "same arrow, argument
-        // count, object, method, arguments", new "+ eq(R,R')".
+        // R18, sca: "+ sv or si with result R, + sv or si with result R'", "same
+        // arrow, argument count, object, method, arguments", new "+ eq(R,R')".
         Rule::Scalarity => {
             let (first, second) = (a.premise(i)?, b.premise(j)?);
             let (one, other) = (first.scalar()?, second.scalar()?);
@@ -185,7 +188,7 @@ fn conclude<'a>(
                 other.result,
             ))
         }
-        // eli: "A only; - obj(P) at I".
+        // R19, eli: "A only; - obj(P) at I". R23 drops it.
         Rule::Elimination => {
             let literal = a.premise(i)?.literal;
             Check::Shape.require(!literal.positive && literal.head == Head::Object)?;
@@ -251,8 +254,8 @@ impl<'a> Parent<'a> {
     }
 }
 
-/// Terms of a parent, filled: "variable N of A becomes term N of the first
-/// list, of B term N of the second".
+/// Terms of a parent, filled. R2: "variable N of A becomes term N of the first
+/// list, variable N of B becomes term N of the second list."
 #[derive(Clone, Copy)]
 struct Filled<'a> {
     nodes: &'a [Node],
@@ -310,8 +313,8 @@ impl<'a> Premise<'a> {
         Ok([self.part(self.place(0)?), self.part(self.place(1)?)])
     }
 
-    /// The number of arguments of a literal that must be "+ st or mt", with
-    /// any result.
+    /// The number of arguments of a literal that must be, R15 to R17, "+ st or
+    /// mt", with any result.
     fn signature_arguments(self) -> Result<usize, Check> {
         match self.literal.head {
             Head::Method {
@@ -321,7 +324,7 @@ impl<'a> Premise<'a> {
         }
     }
 
-    /// The parts of a literal that must be "+ sv or si".
+    /// The parts of a literal that must be, R18, "+ sv or si".
     fn scalar(self) -> Result<Scalar<'a>, Check> {
         match self.literal.head {
             Head::Method {
@@ -337,7 +340,7 @@ impl<'a> Premise<'a> {
         }
     }
 
-    /// "X *covers* Y if they are equal, or Y is X with none in place of a
+    /// R4: "X *covers* Y if they are equal, or if Y is X with none in place of a
     /// term result." Only the atoms are compared.
     fn covers(self, other: Premise<'_>) -> bool {
         if self.literal.head == other.literal.head {

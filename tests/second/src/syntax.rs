@@ -1,5 +1,4 @@
-//! Terms, literals, clauses and lines, as kept in memory (section "The
-//! text").
+//! Terms, literals, clauses and lines (T7 to T16), as kept in memory.
 //!
 //! Terms are kept flat, in preorder: a term stands before its parts, and the
 //! parts follow from left to right. Each application carries the number of
@@ -11,9 +10,10 @@ use std::ops::Range;
 /// One variable or applied symbol of a term.
 #[derive(Clone, Copy, Debug, PartialEq, Eq)]
 pub enum Node {
-    /// "`(v N)`, a variable".
+    /// T11: "`(v N)` is variable N."
     Variable(u16),
-    /// "`(f N TERM ...)`, symbol N applied"; `arity` terms follow.
+    /// T11: "`(f N TERM ...)` is symbol N applied to the terms." `arity` terms
+    /// follow.
     Application { symbol: u16, arity: u16 },
 }
 
@@ -40,8 +40,9 @@ fn first_term_len(nodes: &[Node]) -> usize {
     nodes.len()
 }
 
-/// "ARROW: sv scalar value, si inheritable scalar, mv set value, mi
-/// inheritable set, st scalar signature, mt set signature."
+/// T14: "The arrows: sv is a scalar value, si an inheritable scalar value, mv a
+/// set value, mi an inheritable set value, st a scalar signature, mt a set
+/// signature."
 #[derive(Clone, Copy, Debug, PartialEq, Eq)]
 pub enum Arrow {
     /// `sv`
@@ -59,24 +60,25 @@ pub enum Arrow {
 }
 
 impl Arrow {
-    /// The two scalar arrows sv and si, the subject of rule sca.
+    /// The two scalar arrows sv and si, the subject of rule sca (R18).
     pub fn is_scalar(self) -> bool {
         matches!(self, Arrow::ScalarValue | Arrow::InheritableScalar)
     }
 
-    /// The two signature arrows st and mt, the subject of inh, inp and out.
+    /// The two signature arrows st and mt, the subject of inh, inp and out (R15
+    /// to R17).
     pub fn is_signature(self) -> bool {
         matches!(self, Arrow::ScalarSignature | Arrow::SetSignature)
     }
 
-    /// "R is a term; for mv, mi, st, mt it may be the word `none`".
+    /// T15: "With mv, mi, st and mt it may be the word `none` instead".
     pub fn allows_none(self) -> bool {
         !self.is_scalar()
     }
 }
 
-/// All of an atom but its terms. Atoms of equal head have equally many terms
-/// in the same places.
+/// All of an atom (T13) but its terms. Atoms of equal head have equally many
+/// terms in the same places.
 #[derive(Clone, Copy, Debug, PartialEq, Eq)]
 pub enum Head {
     /// `(eq T U)`
@@ -96,7 +98,8 @@ pub enum Head {
     },
 }
 
-/// "LIT is `(+ ATOM)` or `(- ATOM)`", as a view of the clause that holds it.
+/// T16: "`(+ ATOM)` is a positive literal, `(- ATOM)` a negative one." It is a
+/// view of the clause that holds it.
 #[derive(Clone, Copy, Debug, PartialEq, Eq)]
 pub struct Literal<'a> {
     pub positive: bool,
@@ -108,9 +111,9 @@ pub struct Literal<'a> {
 impl Literal<'_> {
     /// The nodes of the term that starts at a node.
     ///
-    /// "Occurrences are counted from 0 in the literal at I before filling,
-    /// left to right, a term before its parts, variables included": that is
-    /// the preorder, so occurrence K starts at node K.
+    /// R20: "Occurrences are counted from 0 in the literal at I as it is before
+    /// filling, from left to right, a term before its parts, variables
+    /// included." That is the preorder, so occurrence K starts at node K.
     pub fn occurrence(&self, start: usize) -> Option<Range<usize>> {
         let tail = self.nodes.get(start..).filter(|tail| !tail.is_empty())?;
         Some(start..start + first_term_len(tail))
@@ -135,7 +138,7 @@ struct StoredLiteral {
     nodes: Range<usize>,
 }
 
-/// "CLAUSE is `(or LIT ...)`, perhaps `(or)`."
+/// T16: "`(or LIT ...)` is the clause of these literals, `(or)` the empty one."
 #[derive(Clone, Debug, Default)]
 pub struct Clause {
     nodes: Vec<Node>,
@@ -169,7 +172,7 @@ impl Clause {
         &self.nodes
     }
 
-    /// Its "highest variable plus 1 terms (0 without variables)".
+    /// R3: its "highest variable plus 1, and 0 where it has no variable".
     pub fn variable_bound(&self) -> usize {
         self.variable_bound
     }
@@ -203,8 +206,8 @@ impl Clause {
     }
 }
 
-/// "LET is `(let TERM ...)`, perhaps `(let)`": the substitution for the
-/// variables of one parent. Term N stands for variable N.
+/// A LET (T9), the substitution for the variables of one parent: term N stands
+/// for variable N (R2).
 #[derive(Clone, Debug, Default)]
 pub struct Substitution {
     nodes: Vec<Node>,
@@ -227,8 +230,8 @@ impl Substitution {
         &self.nodes
     }
 
-    /// "variable N of A becomes term N of the first list": the nodes that
-    /// stand for a node once it is filled.
+    /// R2: "variable N of A becomes term N of the first list". These are the
+    /// nodes that stand for a node once it is filled.
     pub fn fill<'a>(&'a self, node: &'a Node) -> &'a [Node] {
         match *node {
             Node::Variable(number) => &self.nodes[self.terms[usize::from(number)].clone()],
@@ -248,7 +251,7 @@ impl Substitution {
     }
 }
 
-/// A word of the rule table (section "The rules").
+/// A word of the rule table (R8 to R19).
 #[derive(Clone, Copy, Debug, PartialEq, Eq)]
 pub enum Rule {
     /// `refl`: reflexivity of sub.
@@ -277,7 +280,7 @@ pub enum Rule {
     Elimination,
 }
 
-/// "`(by RULE A I B J K LET LET CLAUSE)`: a step".
+/// T9: "`(by RULE A I B J K LET LET CLAUSE)` is a step."
 #[derive(Clone, Debug)]
 pub struct Step {
     pub rule: Rule,
@@ -291,9 +294,9 @@ pub struct Step {
 /// A line that is a form.
 #[derive(Clone, Debug)]
 pub enum Line {
-    /// "`(sym K)`: the next symbol of the symbol table ... takes K terms."
+    /// T7: "`(sym K)` declares the next symbol of the symbol table".
     Symbol(u16),
-    /// "`(in CLAUSE)`: an input clause."
+    /// T8: "`(in CLAUSE)` is an input clause."
     Input(Clause),
     /// A step.
     Step(Step),

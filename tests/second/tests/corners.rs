@@ -1,4 +1,4 @@
-//! "Corners of the corpus": C1 to C10 and the further limits.
+//! The corners C1 to C10, and C11: "Further corners".
 
 mod common;
 

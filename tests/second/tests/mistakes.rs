@@ -1,4 +1,4 @@
-//! "Mistakes met in the trade", each against a text that shows it.
+//! C12: "Mistakes met in the trade", each against a text that shows it.
 
 mod common;
 

@@ -1,5 +1,5 @@
-//! The inputs that a refutation rests on: "the input clauses from which its
-//! first empty clause descends through used parents, itself if it is an input".
+//! The inputs that a refutation rests on. V30: "the input clauses from which its
+//! first empty clause descends."
 
 mod common;
 

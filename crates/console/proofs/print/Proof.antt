@@ -1,16 +1,19 @@
--- `console::print` is safe and ends: the lines lie within the buffer.
+-- `console::print` meets its contract: the lines lie within the buffer, and writing them leaves it alone.
 -- Assumes nothing.
 use Rattle.print.proofs.Stores.{lines-counts}
 use Rattle.console.proofs.print.Statement.{statement}
 use Rattle.console.proofs.print.Tie as tie
 
-array-share-prefix-out : tie.Need-array-share-prefix-out
-array-share-prefix-out c = lines-counts _ _ _ (c .lines .ensures .0) (c .lines .ensures .1) .0
-
 slice-aggregate-write-all : tie.Need-slice-aggregate-write-all
-slice-aggregate-write-all c = lines-counts _ _ _ (c .before .lines .ensures .0) (c .before .lines .ensures .1) .1
+slice-aggregate-write-all c =
+    let lines = c .before .before .before .lines in
+    lines-counts _ _ _ (lines .ensures .0) (lines .ensures .1) .1
+
+returns : tie.Need-returns
+returns c =
+    let lines = c .before .before .before .before .lines in
+    rw (← lines .ensures .0) (lines .ensures .1)
 
 pub print-spec : {M : Type 1} → statement M
 print-spec =
-    tie.close (tie.spec
-    (λ c κs. tt) array-share-prefix-out slice-aggregate-write-all (λ c κs. tt) (λ c. tt))
+    tie.close (tie.spec (λ c κs. tt) slice-aggregate-write-all (λ c κs. tt) returns)

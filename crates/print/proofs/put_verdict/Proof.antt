@@ -1,7 +1,5 @@
--- `print::put_verdict` meets its contract: each variant's line, which has at most 64 bytes.
--- Assumes nothing.
-use native.Mathlib.Omega.{arith}
 use borrow.Author.Needs.{needs}
+use native.Mathlib.Omega.{arith}
 use Rattle.meaning.specs.Means.{verdictWord, numbers}
 use Rattle.print.specs.Line.{verdictLine}
 use Rattle.print.proofs.put_verdict.Statement.{statement}
@@ -9,18 +7,23 @@ use Rattle.print.proofs.put_verdict.Tie as tie
 
 returns : tie.Need-returns
 unfolding verdictLine verdictWord numbers
-returns c = ((omega arith, omega arith), rw (c .before .before .before .before .v .given .1) (c .put-two .ensures .1))
+returns c =
+    let w = c .before .before .put-two .ensures in
+    (rw (c .before .before .before .before .before .before .v .given .1) (w .0), rw (c .before .before .before .before .before .before .v .given .1) (omega (arith, w .1)))
 
 returns-2 : tie.Need-returns-2
 unfolding verdictLine verdictWord numbers
-returns-2 c = ((omega arith, omega arith), rw (c .before .before .before .before .v2 .given .1) (c .put-one .ensures .1))
+returns-2 c =
+    let w = c .before .before .put-one .ensures in
+    (rw (c .before .before .before .before .before .before .v2 .given .1) (w .0), rw (c .before .before .before .before .before .before .v2 .given .1) (omega (arith, w .1)))
 
 returns-3 : tie.Need-returns-3
 unfolding verdictLine verdictWord numbers
-returns-3 c = ((omega arith, omega arith), rw (c .before .before .before .before .v3 .given .1) (c .put-two2 .ensures .1))
+returns-3 c =
+    let w = c .before .before .put-two2 .ensures in
+    (rw (c .before .before .before .before .before .before .v3 .given .1) (w .0), rw (c .before .before .before .before .before .before .v3 .given .1) (omega (arith, w .1)))
 
 pub put-verdict-spec : {M : Type 1} → statement M
 put-verdict-spec =
     tie.close (tie.spec
-    (λ c. search needs) (λ c. search needs) (λ c κs. search needs) (λ c. search needs) (λ c. search needs)
-    (λ c κs. search needs) (λ c. search needs) (λ c. search needs) (λ c κs. search needs) returns returns-2 returns-3)
+    (λ c. search needs) (λ c. search needs) (λ c κs. tt) (λ c. search needs) (λ c. search needs) (λ c κs. tt) (λ c. search needs) (λ c. search needs) (λ c κs. tt) (λ c. search needs) returns (λ c. search needs) returns-2 (λ c. search needs) returns-3)

@@ -1,10 +1,6 @@
 use native.Mathlib.Omega.{arith}
-use mathlib.Core.List.{map}
-use lib.ListN.{getD}
-use Rattle.logic.specs.declared.Rule.{Rule}
-use Rattle.logic.specs.declared.Rule.the-variants.{Refl}
 use Rattle.rule_table.specs.Rows.{rowOf}
-use Rattle.rule_numbers.proofs.Flags.{rules, placed, carried}
+use Rattle.rule_numbers.proofs.Flags.{placed, carried}
 use Rattle.rule_table.proofs.table_row.Statement.{statement}
 use Rattle.rule_table.proofs.table_row.Tie as tie
 

@@ -19,6 +19,7 @@ usage: compare [--status] FCHECK COUNT SEED [KEEP_DIR]   the texts of COUNT seed
        compare [--status] FCHECK --examples DIR   the texts DIR/*.flogic, against DIR/*.answer
        compare [--status] FJOB --jobs COUNT SEED [KEEP_DIR]   the pairs of COUNT seeds
        compare [--status] FJOB --job-examples DIR   the jobs DIR/*/*.flogic to DIR/*/base.flogic
+       compare PROGRAM --arguments   its help, its version, and its message for other arguments
        compare --second [BASE]   the second checker itself, on standard input
 FCHECK is a program that reads a text on standard input and prints its answer; FJOB one that reads
 a base from the file that is named and its job on standard input. With --status the exit status is
@@ -72,6 +73,7 @@ fn run(arguments: &[String]) -> Result<Option<Count>, String> {
         [program, "--job-examples", folder] => {
             run_job_examples(&open(program, tells)?, Path::new(folder))
         }
+        [program, "--arguments"] => Ok(run_arguments(&open(program, tells)?)),
         [program, "--jobs", count, seed] => {
             let program = open(program, tells)?;
             run_generated(&PAIRS, program, number(count)?, number(seed)?, KEEP)
@@ -200,8 +202,23 @@ fn print_difference(difference: &Difference, path: &Path) {
     }
 }
 
+/// What the program prints for the arguments that ask for its help and its
+/// version, and what it says of both together and of a file that isn't there.
+fn run_arguments(program: &Program) -> Count {
+    let name = program.name();
+    let mut count = Count::default();
+    let help = format!("usage: {name} ");
+    count.add_failure("--help", program.prints("--help", &help));
+    let version = format!("{name} 0.");
+    count.add_failure("--version", program.prints("--version", &version));
+    let both = ["--help", "--version"];
+    count.add_failure("two arguments", program.complains(&both));
+    count.add_failure("./--help", program.complains(&["./--help"]));
+    count
+}
+
 /// Each example's expected answer must be the second checker's too. A failed
-/// read is one more.
+/// read and closed ends are more.
 fn run_examples(program: &Program, folder: &Path) -> io::Result<Count> {
     let mut count = Count::default();
     for example in read_examples(folder)? {
@@ -209,7 +226,7 @@ fn run_examples(program: &Program, folder: &Path) -> io::Result<Count> {
         let second = second_answer(&example.text);
         count.add_example(&example.name, &example.expected, &answer, &second);
     }
-    count.add_failure(FAILED_READ, program.tells_failed_read(None));
+    count.add_failures(program, None);
     Ok(count)
 }
 
@@ -225,7 +242,7 @@ fn run_job_examples(program: &Program, folder: &Path) -> io::Result<Count> {
         count.add_example(&example.name, &example.expected, &answer, &second);
     }
     let base = examples[0].base_path.as_path();
-    count.add_failure(FAILED_READ, program.tells_failed_read(Some(base)));
+    count.add_failures(program, Some(base));
     let missing = folder.join("no-such-folder/base.flogic");
     let wrong: [(&str, &[&Path]); 4] = [
         ("a base that isn't there", &[&missing]),
@@ -240,8 +257,6 @@ fn run_job_examples(program: &Program, folder: &Path) -> io::Result<Count> {
     Ok(count)
 }
 
-const FAILED_READ: &str = "standard input that can't be read";
-
 impl Count {
     /// Counts an example, and prints it where it fails.
     fn add_example(&mut self, name: &str, expected: &[u8], answer: &[u8], second: &[u8]) {
@@ -254,6 +269,18 @@ impl Count {
         println!("  expected: {}", shown(expected));
         println!("  program:  {}", shown(answer));
         println!("  second:   {}", shown(second));
+    }
+
+    /// Standard input that can't be read, and either end closed.
+    fn add_failures(&mut self, program: &Program, base: Option<&Path>) {
+        let read = program.tells_failed_read(base);
+        self.add_failure("standard input that can't be read", read);
+        for (what, closing) in [
+            ("standard input that is closed", "<&-"),
+            ("standard output that is closed", ">&-"),
+        ] {
+            self.add_failure(what, program.tells_closed(closing, base));
+        }
     }
 
     /// Counts a failure that the program has to tell, and prints it where it

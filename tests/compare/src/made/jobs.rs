@@ -56,7 +56,13 @@ fn cut(text: &[u8], line: usize, expected: &str) -> MadePair {
     let lines = lines_of(text);
     let (base, job) = lines.split_at(line);
     let constant = base.contains(&&b"(sym 0)\n"[..]);
-    let expected = if constant { expected } else { "refused 4 0" };
+    let refused = expected.strip_prefix("refused ");
+    let failed = refused.and_then(|numbers| numbers.split(' ').nth(1)?.parse().ok());
+    let fails = failed.is_some_and(|failed| (1..=line).contains(&failed));
+    let expected = match constant || fails {
+        true => expected,
+        false => "refused 4 0",
+    };
     MadePair::new(base.concat(), job.concat(), expected)
 }
 

@@ -9,6 +9,8 @@ use std::process::{Command, Output};
 
 pub const COMPARE: &str = env!("CARGO_BIN_EXE_compare");
 
+const OPEN: &str = "(: 3<&0 4>&1) || exit 2";
+
 /// A folder of a test's own.
 pub fn folder(name: &str) -> PathBuf {
     let folder = Path::new(env!("CARGO_TARGET_TMPDIR")).join(name);
@@ -17,11 +19,13 @@ pub fn folder(name: &str) -> PathBuf {
     folder
 }
 
-/// A program made of shell commands, in which SECOND is the second checker.
+/// A program made of shell commands, in which SECOND is the second checker. It
+/// ends where standard input or output is closed, which the second checker, in
+/// Rust, doesn't see.
 pub fn script(folder: &Path, commands: &str) -> String {
     let path = folder.join("program");
     let commands = commands.replace("SECOND", &format!("'{COMPARE}' --second"));
-    fs::write(&path, format!("#!/bin/sh\n{commands}\n")).unwrap();
+    fs::write(&path, format!("#!/bin/sh\n{OPEN}\n{commands}\n")).unwrap();
     fs::set_permissions(&path, fs::Permissions::from_mode(0o755)).unwrap();
     path.to_str().unwrap().to_string()
 }

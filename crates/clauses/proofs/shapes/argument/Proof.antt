@@ -5,7 +5,7 @@ use Rattle.clauses.specs.Shapes.{argumentAt}
 
 returns : tie.Need-returns
 unfolding argumentAt
-returns c = (cc, refl)
+returns c = (rw (c .argument .ensures, c .before .next2 .ensures .0, c .before .before .next .ensures .0), refl)
 
 pub argument-spec : {M : Type 1} → statement M
 argument-spec =

@@ -5,7 +5,7 @@ use Rattle.clauses.specs.Shapes.{atomAt}
 
 returns : tie.Need-returns
 unfolding atomAt
-returns c = (cc, refl)
+returns c = (rw (c .or-else .ensures, c .before .negative .ensures .0, c .before .before .positive .ensures .0), refl)
 
 pub atom-spec : {M : Type 1} → statement M
 atom-spec =

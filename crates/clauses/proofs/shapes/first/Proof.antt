@@ -4,7 +4,7 @@ use Rattle.clauses.proofs.shapes.first.Tie as tie
 
 returns : tie.Need-returns
 unfolding firstAt stripAt
-returns c = cc
+returns c = rw (c .word .ensures .0, c .before .positive .ensures .0)
 
 pub first-spec : {M : Type 1} → statement M
 first-spec =

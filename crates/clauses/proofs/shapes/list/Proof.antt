@@ -5,7 +5,7 @@ use Rattle.clauses.proofs.shapes.list.Tie as tie
 
 returns : tie.Need-returns
 unfolding listAt stripAt
-returns c = (cc, refl)
+returns c = (rw (c .starts .ensures, c .before .word .ensures .0), refl)
 
 pub list-spec : {M : Type 1} → statement M
 list-spec = tie.close (tie.spec (λ c. refl) (λ c κs. tt) (λ c κs. tt) returns)

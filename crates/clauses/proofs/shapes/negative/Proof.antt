@@ -5,7 +5,7 @@ use Rattle.clauses.specs.Shapes.{stripAt, negativeAt}
 
 returns : tie.Need-returns
 unfolding negativeAt stripAt
-returns c = (cc, refl)
+returns c = (rw (c .word .ensures .0), refl)
 
 pub negative-spec : {M : Type 1} → statement M
 negative-spec =

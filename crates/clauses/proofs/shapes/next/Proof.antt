@@ -5,7 +5,7 @@ use Rattle.clauses.proofs.shapes.next.Tie as tie
 
 returns : tie.Need-returns
 unfolding nextAt skipAt stripAt
-returns c = (cc, refl)
+returns c = (rw (c .word .ensures .0, c .before .before .skip .ensures .0), refl)
 
 pub next-spec : {M : Type 1} → statement M
 next-spec =

@@ -5,7 +5,7 @@ use Rattle.clauses.proofs.shapes.positive.Tie as tie
 
 returns : tie.Need-returns
 unfolding positiveAt stripAt
-returns c = (cc, refl)
+returns c = (rw (c .word .ensures .0), refl)
 
 pub positive-spec : {M : Type 1} → statement M
 positive-spec =

@@ -5,7 +5,7 @@ use Rattle.clauses.proofs.shapes.result.Tie as tie
 
 returns : tie.Need-returns
 unfolding resultAt
-returns c = (cc, refl)
+returns c = (rw (c .next3 .ensures .0, c .before .next2 .ensures .0, c .before .before .next .ensures .0), refl)
 
 pub result-spec : {M : Type 1} → statement M
 result-spec =

@@ -5,7 +5,7 @@ use Rattle.clauses.proofs.shapes.value.Tie as tie
 
 returns : tie.Need-returns
 unfolding valueAt stripAt
-returns c = (cc, refl)
+returns c = (rw (c .if-place .ensures, c .before .word .ensures .0, c .before .before .before .result .ensures .0), refl)
 
 pub value-spec : {M : Type 1} → statement M
 value-spec =

@@ -1,9 +1,7 @@
-use mathlib.Core.Path.{ap}
 use mathlib.Core.Path.{refl}
 use Rattle.filling.proofs.claims.ends.Statement.{statement}
 use Rattle.filling.proofs.claims.ends.Tie as tie
 use Rattle.clauses.specs.Shapes.{stripAt}
-use lib.Dec.{eqb}
 
 returns : tie.Need-returns
 unfolding stripAt

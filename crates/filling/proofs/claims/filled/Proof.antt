@@ -1,7 +1,6 @@
 use mathlib.Core.Path.{ap}
 use Rattle.filling.specs.declared.compare.Ends.{Ends}
 use Rattle.filling.specs.Claims.{filledAt}
-use borrow.Author.Needs.{needs}
 use Rattle.filling.proofs.claims.filled.Statement.{statement}
 use Rattle.filling.proofs.claims.filled.Tie as tie
 

@@ -1,7 +1,6 @@
 use mathlib.Core.Path.{refl}
 use Rattle.clauses.specs.Shapes.{stripAt}
 use Rattle.filling.specs.Claims.{keptAt}
-use borrow.Author.Needs.{needs}
 use Rattle.filling.proofs.claims.kept.Statement.{statement}
 use Rattle.filling.proofs.claims.kept.Tie as tie
 

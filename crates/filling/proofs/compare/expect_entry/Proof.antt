@@ -2,7 +2,8 @@ use mathlib.Core.Path.{refl}
 use denote.Ref.{now}
 use native.Mathlib.Omega.{arith}
 use Rattle.text.specs.Access.{entryOf}
-use Rattle.filling.proofs.Answers.{ends-at, ends-bad, find-index, entry-lost, entry-other, entry-same}
+use Rattle.filling.proofs.Loops.{ends-at, ends-bad}
+use Rattle.filling.proofs.Answers.{find-index, entry-lost, entry-other, entry-same}
 use Rattle.filling.proofs.compare.expect_entry.Statement.{statement}
 use Rattle.filling.proofs.compare.expect_entry.Tie as tie
 

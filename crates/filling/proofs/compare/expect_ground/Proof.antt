@@ -1,8 +1,9 @@
 use denote.Ref.{now}
 use native.Mathlib.Omega.{arith}
-use mathlib.Core.Path.{_≡_, _∙_}
+use mathlib.Core.Path.{_∙_}
 use borrow.Author.Needs.{needs}
-use Rattle.filling.proofs.Answers.{ends-bad, item-open, item-begins, item-ends}
+use Rattle.filling.proofs.Loops.{ends-bad}
+use Rattle.filling.proofs.Answers.{item-open, item-begins, item-ends}
 use Rattle.filling.proofs.compare.expect_ground.Statement.{statement}
 use Rattle.filling.proofs.compare.expect_ground.Tie as tie
 

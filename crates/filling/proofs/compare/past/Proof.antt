@@ -1,4 +1,3 @@
-use denote.Ref.{now}
 use borrow.Author.Needs.{needs}
 use native.Mathlib.Omega.{arith}
 use Rattle.text.proofs.Places.{byte-here, byte-other, byte-past}
@@ -9,7 +8,7 @@ returns : tie.Need-returns
 returns c = byte-past _ _ _ (c .if1 .taken)
 
 returns-2 : tie.Need-returns-2
-returns-2 c = byte-here _ _ _ (omega arith) (c .if2 .taken)
+returns-2 c = byte-here _ _ _ (omega arith) (omega arith)
 
 returns-3 : tie.Need-returns-3
 returns-3 c = byte-other _ _ _ (omega arith) (c .if2 .left)

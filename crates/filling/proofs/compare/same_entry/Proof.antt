@@ -5,7 +5,8 @@ use lib.ListN.{length, drop}
 use Rattle.text.specs.Access.{entryOf}
 use Rattle.filling.specs.Filled.{fillItem, plain}
 use Rattle.filling.proofs.Walk.{fill-shrinks, matching-shortens, land}
-use Rattle.filling.proofs.Answers.{ends-at, ends-bad, find-index}
+use Rattle.filling.proofs.Loops.{ends-at, ends-bad}
+use Rattle.filling.proofs.Answers.{find-index}
 use Rattle.filling.proofs.Sameness.{both-lost, both-found, whole-other, whole-same}
 use borrow.Author.Needs.{needs}
 use Rattle.filling.proofs.compare.same_entry.Statement.{statement}

@@ -11,18 +11,15 @@ use Rattle.scan.proofs.words.prefix.Statement.{statement}
 use Rattle.scan.proofs.words.prefix.Tie as tie
 
 returns : tie.Need-returns
-returns c = (c .word .ensures .0, (refl, refl))
-
-returns-2 : tie.Need-returns-2
-returns-2 c =
-    let a = c .before .before .before .before .before .before .args in
+returns c =
+    let a = c .before .before .before .before .before .args in
     let i = c .before .before .ahead .result in
     let x = now (a .s) in
     let w = now (a .w) in
     let t : take (length w - i) (drop i w) ≡ drop i w = take-all (length w - i) (drop i w) (omega (arith, length-drop i w)) in
-    (c .word2 .ensures .0 ∙ ap (endOf x) (ap (λ v. strip v (drop (a .at + i) x)) t ∙ sym (c .before .before .ahead .ensures .2)), (refl, refl))
+    (c .word .ensures .0 ∙ ap (endOf x) (ap (λ v. strip v (drop (a .at + i) x)) t ∙ sym (c .before .before .ahead .ensures .2)), (refl, refl))
 
 pub prefix-spec : {M : Type 1} → statement M
 prefix-spec =
     tie.close (tie.spec
-    (λ c κs. tt) returns (λ c κs. tt) (λ c. omega arith) (λ c. search needs) (λ c. search needs) (λ c. search needs) (λ c κs. tt) returns-2)
+    (λ c κs. tt) (λ c. omega arith) (λ c. search needs) (λ c. search needs) (λ c. search needs) (λ c κs. tt) returns)

@@ -6,11 +6,11 @@ use mathlib.Core.List.{List, [], _∷_, _++_, append-assoc, append-nil}
 use native.Mathlib.Nat.{pow-suc, mod-eq-of-lt, mod-lt, div-lt-iff-lt-mul, le-div-iff-mul-le, one-le-pow}
 use native.Mathlib.Omega.{arith}
 use lib.Dec.{ltb, lit<}
-use lib.ListN.{length, length-append}
+use lib.ListN.{length}
 use borrow.Author.Tests.{lt-ltb, le-ltb, ltb-false}
 use Rattle.io.specs.Digits.{glyph, digits, Fewest}
 use Rattle.text.specs.Write.{putDigits, putNumber}
-use Rattle.print.specs.Line.{numeral}
+use Rattle.writer.specs.Written.{numeral}
 
 small-glyph : (d : ℕ) → d < 10 → glyph d ≡ 48 + d
 small-glyph d h = simp (lt-ltb d 10 h)
@@ -71,11 +71,3 @@ short (suc f) d n rest small = short-at f d n rest (ltb n 10) refl (λ e. short 
 pub numeral-short : (d n : ℕ) → n < 10 ^ suc d → length (numeral n) ≤ suc d
 unfolding numeral putNumber
 numeral-short d n small = omega (arith, short n d n [] small)
-
-length-digits : (b k n : ℕ) → length (digits b k n) ≡ k
-length-digits b zero n = refl
-length-digits b (suc k) n = omega (arith, length-append (digits b k (n / b)) (glyph (n % b) ∷ []), length-digits b k (n / b))
-
--- A number of 64 bits has at most 20 digits.
-pub few : (n k : ℕ) → n < 2 ^ 64 → Fewest 10 1 n k → k ≤ 20
-few n k small h = omega (arith, length-digits 10 k n, ap length (decimal-numeral n k h), numeral-short 19 n (omega arith))
