@@ -10,14 +10,9 @@ use lib.ListN.{length, drop, set, getD, length-append, length-set}
 use lib.Seq.{drop-cons, drop-length, set-at}
 use Rattle.logic.specs.Descent.{among, numbersBelow}
 use Rattle.logic.proofs.Descending.{member→among, among→member, numbers-below, below-numbers}
+use Rattle.text.proofs.Tests.{same-test}
 use Rattle.meaning.specs.Means.{named}
 use Rattle.capi.specs.Numbered.{flag, flags, Flagged}
-
-same-test : (a b : Bool) → (T a → T b) → (T b → T a) → a ≡ b
-same-test true true h k = refl
-same-test true false h k = absurd (h tt)
-same-test false true h k = absurd (k tt)
-same-test false false h k = refl
 
 -- A number below the bound is listed exactly where it passes the test, and no other is.
 below : (m n : ℕ) (test : ℕ → Bool) → n < m → among n (numbersBelow m test) ≡ test n

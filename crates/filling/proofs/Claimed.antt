@@ -26,20 +26,10 @@ use Rattle.filling.specs.Filled.{filledBy, matches, endsOf, itemDepth}
 use Rattle.clauses.specs.Shapes.{stripAt, skipAt}
 use Rattle.filling.specs.Claims.{keptAt, onceAt, othersFrom}
 use Rattle.filling.proofs.Filling.{tree-literal}
+use Rattle.filling.proofs.Walk.{strip-append}
 use Rattle.filling.proofs.Grounds.{Entries, filled-by, empty-by}
 use Rattle.text.proofs.Trees.{treeLiteral, put-literal, clean-literal, within-literal}
 use Rattle.clauses.proofs.Placing.{Stands, strip-stands, skip-stands, past-strip, none-past}
-
--- One word after another.
-strip-append : (v w bs : List ℕ) → strip (v ++ w) bs ≡ andThen (strip v bs) (λ _. strip w)
-unfolding strip
-strip-append [] w bs = refl
-strip-append (a ∷ v) w [] = refl
-strip-append (a ∷ v) w (b ∷ bs) = go (eqb a b) (strip-append v w bs)
-  where
-    go : (e : Bool) → strip (v ++ w) bs ≡ andThen (strip v bs) (λ _. strip w) → cond e (strip (v ++ w) bs) bad ≡ andThen (cond e (strip v bs) bad) (λ _. strip w)
-    go true h = h
-    go false h = refl
 
 pub strip-chain : (line v : List ℕ) (b : ℕ) (w : List ℕ) (pos : ℕ) → stripAt line (v ++ (b ∷ w)) pos ≡ stripAt line (b ∷ w) (stripAt line v pos)
 unfolding stripAt strip

@@ -148,7 +148,7 @@ module _ (σ : Substitution) where
 
 -- The filled bytes of a written term, where the list has the entries of the variables below w and the hole stands elsewhere.
 module _ (f : Filler) (σ : Substitution) (w d : ℕ) (entry : (n : ℕ) → n < w → f .entry n ≡ putTerm (σ n) []) where
-  given-entry : (n : ℕ) → Below w n → f .entry n ≡ putTree (treeTerm (σ n)) []
+  pub given-entry : (n : ℕ) → Below w n → f .entry n ≡ putTree (treeTerm (σ n)) []
   given-entry n h = entry n (h .1) ∙ put-term (σ n) []
 
   pub fill-term : (t : Term) → T (formedTerm d t) → termWidth t ≤ w → (rest : List ℕ) → Clear (f .hole) (length rest) (length (putTerm t rest)) → fillItem f d (putTerm t rest) ≡ got (putTerm (fill σ t) []) rest

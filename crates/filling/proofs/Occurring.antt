@@ -19,7 +19,7 @@ use Rattle.text.specs.Access.{seek, toOccurrence}
 use Rattle.text.proofs.Tests.{T-and}
 use Rattle.text.proofs.Trees.{join-width, Tree, node, Trees, end, byte, part, putTree, texts, Clean, Below, treeTerm, treeAtom, treeLiteral, put-term, put-literal, clean-literal, within-literal}
 use Rattle.filling.specs.Filled.{Filler, fillItem}
-use Rattle.filling.proofs.Filling.{trees}
+use Rattle.filling.proofs.Filling.{given-entry, trees}
 use Rattle.filling.proofs.Holes.{Found, past as passed, found as spotted, mapFound, findTrees, onFound, seek-inside, Good, hole-tree, stack}
 use Rattle.filling.proofs.Finding.{All, Alike, gone, there, alike-literal, in-bracket, sign-plain}
 
@@ -77,9 +77,6 @@ pub data Occurs (f : Filler) (σ : Substitution) (w d depth k : ℕ) (l : Litera
   somewhere : {s : Term} {l′ : Literal} (t : Term) (left : List ℕ) → s ≡ fill σ t → Small w d t → toOccurrence k (putLiteral l rest) ≡ got tt (putTerm t left) → (f .hole ≡ length (putTerm t left) → fillItem f depth (putLiteral l rest) ≡ got (putLiteral l′ []) rest) → Occurs f σ w d depth k l rest (found s l′)
 
 module _ (f : Filler) (σ : Substitution) (w d D : ℕ) (entry : (n : ℕ) → n < w → f .entry n ≡ putTerm (σ n) []) (u : Term) (new : (e : ℕ) → D ≤ e → (r : List ℕ) × (f .new e ≡ got (putTerm u []) r)) where
-  given-entry : (n : ℕ) → Below w n → f .entry n ≡ putTree (treeTerm (σ n)) []
-  given-entry n h = entry n (h .1) ∙ put-term (σ n) []
-
   given-new : (e : ℕ) → D ≤ e → (r : List ℕ) × (f .new e ≡ got (putTree (treeTerm u) []) r)
   given-new e h = (new e h .0, new e h .1 ∙ ap (λ b. got b (new e h .0)) (put-term u []))
 
@@ -96,5 +93,5 @@ module _ (f : Filler) (σ : Substitution) (w d D : ℕ) (entry : (n : ℕ) → n
       let ts = texts (bytes (signWord g)) (byte 32 (part (treeAtom x) end)) in
       occurs-as k (lit g x) rest
       (rw (put-literal (lit g x) rest, in-bracket σ u ts (sign-plain g (part (treeAtom x) end)) k) (occurrence-in (trees σ) (treeTerm u) ts (clean-literal (lit g x)) k rest))
-      (hole-tree f (trees σ) (Below w) (λ n b. b .0) given-entry (treeTerm u) D given-new (treeLiteral (lit g x)) k (suc (suc (suc d))) (clean-literal (lit g x)) (within-literal w d g x fx wx))
+      (hole-tree f (trees σ) (Below w) (λ n b. b .0) (given-entry f σ w d entry) (treeTerm u) D given-new (treeLiteral (lit g x)) k (suc (suc (suc d))) (clean-literal (lit g x)) (within-literal w d g x fx wx))
       (alike-literal σ u (Small w d) (small-parts w d) g x (small-atom w d x fx wx) k)

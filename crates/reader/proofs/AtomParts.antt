@@ -24,6 +24,7 @@ use Rattle.text.specs.Places.{endOf, readOr}
 use Rattle.scan.specs.Tables.{readLinkWord, readArrowWord, linkAt, arrowAt, signAt}
 use Rattle.reader.specs.Summary.{empty, joined, counted, summary, settled, termMeasure, termsMeasure, resultMeasure, atomOf, argumentCount, atomMeasure, literalMeasure}
 use Rattle.text.proofs.Places.{past}
+use Rattle.text.proofs.Trees.{join-width}
 use Rattle.text.proofs.Plain.{sign-plain, link-plain, arrow-plain, arguments-plain, result-plain, atom-plain, literal-plain}
 use Rattle.text.proofs.Sound.{table-sound, arguments-sound, result-sound, atom-sound, literal-sound}
 use Rattle.text.proofs.Chain.{Stops, stops, word-stops, Track, lost, found, look, onward, lose, losing, handed, hit, miss, first-word, later-word, no-word, last-word}
@@ -66,11 +67,6 @@ join-each : (table : List ℕ) (ts us : Terms) → eachTerms any (declares table
 unfolding eachTerms join
 join-each table nil us = refl
 join-each table (cons t ts) us = rw (join-each table ts us) (simp and-assoc)
-
-join-width : (ts us : Terms) → termsWidth (join ts us) ≡ max (termsWidth ts) (termsWidth us)
-unfolding termsWidth join
-join-width nil us = omega arith
-join-width (cons t ts) us = rw (join-width ts us) (omega arith)
 
 link-measure : (table : List ℕ) (l : Link) (t u : Term) → atomOf (joined (termMeasure table t) (termMeasure table u)) 0 ≡ atomMeasure table (link l t u)
 unfolding joined termMeasure atomMeasure argumentCount eachAtom termsOf termsWidth eachTerms

@@ -14,6 +14,7 @@ use Rattle.scan.specs.declared.numbers.NumberAt.{NumberAt}
 use Rattle.reader.specs.declared.measures.Measure.{Measure}
 use Rattle.reader.specs.declared.summaries.Summary.{Summary}
 use Rattle.scan.specs.declared.tables.RuleAt.{RuleAt}
+use Rattle.reader.specs.declared.forms.HeadAt.{HeadAt}
 use Rattle.reader.specs.declared.forms.ItemAt.{ItemAt}
 use Rattle.reader.specs.declared.forms.LineAt.{LineAt}
 use Rattle.reader.specs.declared.forms.LineAt.the-variants.{NoForm, Sym, Input, By}
@@ -25,7 +26,7 @@ use Rattle.text.specs.Places.{endOf, readOr}
 use Rattle.scan.specs.Numbers.{numberAt}
 use Rattle.scan.specs.Tables.{ruleAt}
 use Rattle.reader.specs.Summary.{summary, termsMeasure, clauseMeasure}
-use Rattle.reader.specs.LineAt.{readSpaced, fromClause, fromSecond, fromFirst, placeOf, stepOf, lineOf}
+use Rattle.reader.specs.LineAt.{readSpaced, spacedAt, headAt, fromClause, fromSecond, fromFirst, placeOf, stepOf, lineOf}
 use Rattle.text.proofs.Gives.{given, strip-gives, skipped, finally}
 use Rattle.text.proofs.Number.{number-sound}
 use Rattle.text.proofs.Plain.{Plain, _⨾_, plain, number-plain, rule-plain, let-plain}
@@ -105,14 +106,10 @@ module _ (table s : List ℕ) (at : ℕ) where
       λ c₁ g m n w. onward s (c .end) _ (word-stops 41 []) i w (λ l. l)
       λ _ g₁ _ l w. found (input c₁) w l (λ q. rw (measuring (clauseMeasure table) s h g, ← place s {at = at} (omega arith) (given (clause-sound d .at (drop at s)) g .0 ∙ ap (putClause c₁) (stripped s (bytes ")") (c .end) e g₁ ∙ ap (λ r. 41 ∷ r) (past s e (omega arith))))))
 
-  -- A step whose rule, numbers, lists and claim were read so, up to the place e.
-  abbrev pub StepTrack : ℕ → RuleAt → NumberAt → NumberAt → NumberAt → NumberAt → NumberAt → ℕ → Summary → ℕ → Summary → ℕ → Summary → ℕ → Type 0
-  StepTrack d r a i b j k first f second g claim c e =
+  parts-track : (d : ℕ) {r : RuleAt} {a i b j k : NumberAt} {first second claim e : ℕ} {f g c : Summary} → r ≡ ruleAt s (readRule (drop at s)) → a ≡ numberAt s (readSpaced (drop (r .end) s)) → i ≡ numberAt s (readSpaced (drop (a .end) s)) → b ≡ numberAt s (readSpaced (drop (i .end) s)) → j ≡ numberAt s (readSpaced (drop (b .end) s)) → k ≡ numberAt s (readSpaced (drop (j .end) s)) → first ≡ endOf s (strip (bytes " ") (drop (k .end) s)) → f ≡ summary (termsMeasure table) s (readLet d (drop first s)) → second ≡ endOf s (strip (bytes " ") (drop (f .end) s)) → g ≡ summary (termsMeasure table) s (readLet d (drop second s)) → claim ≡ endOf s (strip (bytes " ") (drop (g .end) s)) → c ≡ summary (clauseMeasure table) s (readClause d (drop claim s)) → e ≡ endOf s (strip (bytes ")") (drop (c .end) s)) →
       Track s (λ x. e ≡ length s → By (record { rule = r .rule; a = a .value; i = i .value; b = b .value; j = j .value; k = k .value; first = item first (f .measure); second = item second (g .measure); claim = item claim (c .measure) }) ≡ lineOf table s (form x)) (readStep d (drop at s)) e
-
-  pub step-track : (d : ℕ) {r : RuleAt} {a i b j k : NumberAt} {first second claim e : ℕ} {f g c : Summary} → r ≡ ruleAt s (readRule (drop at s)) → a ≡ numberAt s (readSpaced (drop (r .end) s)) → i ≡ numberAt s (readSpaced (drop (a .end) s)) → b ≡ numberAt s (readSpaced (drop (i .end) s)) → j ≡ numberAt s (readSpaced (drop (b .end) s)) → k ≡ numberAt s (readSpaced (drop (j .end) s)) → first ≡ endOf s (strip (bytes " ") (drop (k .end) s)) → f ≡ summary (termsMeasure table) s (readLet d (drop first s)) → second ≡ endOf s (strip (bytes " ") (drop (f .end) s)) → g ≡ summary (termsMeasure table) s (readLet d (drop second s)) → claim ≡ endOf s (strip (bytes " ") (drop (g .end) s)) → c ≡ summary (clauseMeasure table) s (readClause d (drop claim s)) → e ≡ endOf s (strip (bytes ")") (drop (c .end) s)) → StepTrack d r a i b j k first f second g claim c e
   unfolding readStep
-  step-track d {r} {a} {i} {b} {j} {k} {first} {second} {claim} {e} {f} {g} {c} hr ha hi hb hj hk h₁ hf h₂ hg h₃ hc h₄ =
+  parts-track d {r} {a} {i} {b} {j} {k} {first} {second} {claim} {e} {f} {g} {c} hr ha hi hb hj hk h₁ hf h₂ hg h₃ hc h₄ =
       let hr' : r .end ≡ endOf s (readRule (drop at s)) = ap (λ (r : RuleAt). r .end) hr in
       let l₁₂ = lose s (word-stops 41 []) h₄ in
       let l₁₁ = losing s (clause-stops d) (ending hc) l₁₂ in
@@ -144,6 +141,23 @@ module _ (table s : List ℕ) (at : ℕ) where
       (given (let-sound d .at (drop second s)) gg .0) (stripped s (bytes " ") (g .end) claim g₃)
       (given (clause-sound d .at (drop claim s)) gc .0) (stripped s (bytes ")") (c .end) e g₄ ∙ ap (λ r. 41 ∷ r) (past s e (omega arith)))
       (measuring (termsMeasure table) s hf gf) (measuring (termsMeasure table) s hg gg) (measuring (clauseMeasure table) s hc gc))
+
+  -- A step whose rule, numbers, lists and claim were read so, up to the place e.
+  abbrev pub StepTrack : ℕ → HeadAt → ℕ → Summary → ℕ → Summary → ℕ → Summary → ℕ → Type 0
+  StepTrack d h first f second g claim c e =
+      Track s (λ x. e ≡ length s → By (record { rule = h .rule; a = h .a; i = h .i; b = h .b; j = h .j; k = h .k; first = item first (f .measure); second = item second (g .measure); claim = item claim (c .measure) }) ≡ lineOf table s (form x)) (readStep d (drop at s)) e
+
+  pub step-track : (d : ℕ) {h : HeadAt} {first second claim e : ℕ} {f g c : Summary} → h ≡ headAt s at → first ≡ endOf s (strip (bytes " ") (drop (h .end) s)) → f ≡ summary (termsMeasure table) s (readLet d (drop first s)) → second ≡ endOf s (strip (bytes " ") (drop (f .end) s)) → g ≡ summary (termsMeasure table) s (readLet d (drop second s)) → claim ≡ endOf s (strip (bytes " ") (drop (g .end) s)) → c ≡ summary (clauseMeasure table) s (readClause d (drop claim s)) → e ≡ endOf s (strip (bytes ")") (drop (c .end) s)) → StepTrack d h first f second g claim c e
+  unfolding readStep headAt spacedAt
+  step-track d {h} {first} {second} {claim} {e} {f} {g} {c} hh h₁′ hf h₂ hg h₃ hc h₄ =
+      let r = ruleAt s (readRule (drop at s)) in
+      let a = numberAt s (readSpaced (drop (r .end) s)) in
+      let i = numberAt s (readSpaced (drop (a .end) s)) in
+      let b = numberAt s (readSpaced (drop (i .end) s)) in
+      let j = numberAt s (readSpaced (drop (b .end) s)) in
+      let k = numberAt s (readSpaced (drop (j .end) s)) in
+      let h₁ : first ≡ endOf s (strip (bytes " ") (drop (k .end) s)) = rw hh at h₁′ in
+      rw hh (parts-track d {r = r} {a = a} {i = i} {b = b} {j = j} {k = k} refl refl refl refl refl refl h₁ hf h₂ hg h₃ hc h₄)
 
 step-needs : (d : ℕ) → readStep d [] ≡ bad
 unfolding readStep readRule oneOf strip

@@ -11,7 +11,7 @@ ghost use mathlib.Core.Path.{_≡_};
 ghost use lib.ListN.{drop};
 ghost use Rattle.text.specs.Read.{readSym, readInput, readStep, whole, readLine};
 ghost use Rattle.scan.specs.Numbers.{numberAt};
-ghost use Rattle.reader.specs.LineAt.{readSpaced, lineOf};
+ghost use Rattle.reader.specs.LineAt.{readSpaced, headAt, lineOf};
 
 // A clause or a list of a line: where it begins, and its measure.
 pub struct ItemAt {
@@ -77,9 +77,20 @@ fn spaced(s: &[u8], at: usize) -> NumberAt
     number(s, word(s, at, b" "))
 }
 
-// RULE A I B J K LET LET CLAUSE) after the word by.
-fn step_line(s: &[u8], at: usize, depth: usize, table: &[u8]) -> LineAt
-    ensures { λ r. ⌜ r ≡ lineOf (now (table .entry)) (now (s .entry)) (whole (readStep depth (drop at (now (s .entry))))) ⌝ }
+// RULE A I B J K of a step, and the place past them.
+struct HeadAt {
+    rule: Rule,
+    a: usize,
+    i: usize,
+    b: usize,
+    j: usize,
+    k: usize,
+    end: usize,
+}
+
+// RULE A I B J K after the word by.
+fn step_head(s: &[u8], at: usize) -> HeadAt
+    ensures { λ r. ⌜ r ≡ headAt (now (s .entry)) at ⌝ }
 {
     let r = rule(s, at);
     let a = spaced(s, r.end);
@@ -87,7 +98,24 @@ fn step_line(s: &[u8], at: usize, depth: usize, table: &[u8]) -> LineAt
     let b = spaced(s, i.end);
     let j = spaced(s, b.end);
     let k = spaced(s, j.end);
-    let first = word(s, k.end, b" ");
+    let rule = r.rule;
+    HeadAt {
+        rule,
+        a: a.value,
+        i: i.value,
+        b: b.value,
+        j: j.value,
+        k: k.value,
+        end: k.end,
+    }
+}
+
+// RULE A I B J K LET LET CLAUSE) after the word by.
+fn step_line(s: &[u8], at: usize, depth: usize, table: &[u8]) -> LineAt
+    ensures { λ r. ⌜ r ≡ lineOf (now (table .entry)) (now (s .entry)) (whole (readStep depth (drop at (now (s .entry))))) ⌝ }
+{
+    let head = step_head(s, at);
+    let first = word(s, head.end, b" ");
     let f = list(s, first, depth, table);
     let second = word(s, f.end, b" ");
     let g = list(s, second, depth, table);
@@ -100,14 +128,14 @@ fn step_line(s: &[u8], at: usize, depth: usize, table: &[u8]) -> LineAt
     let firsts = f.measure;
     let seconds = g.measure;
     let claimed = c.measure;
-    let rule = r.rule;
+    let rule = head.rule;
     LineAt::By(StepAt {
         rule,
-        a: a.value,
-        i: i.value,
-        b: b.value,
-        j: j.value,
-        k: k.value,
+        a: head.a,
+        i: head.i,
+        b: head.b,
+        j: head.j,
+        k: head.k,
         first: ItemAt {
             start: first,
             measure: firsts,

@@ -16,14 +16,7 @@ use Rattle.state.specs.State.{argumentsFit, argumentsFitAll, anySymbol, 
 use Rattle.reader.specs.Summary.{joined, termsMeasure, clauseMeasure, argumentCount, mostArguments}
 use Rattle.reader.specs.LineAt.{stepOf}
 use Rattle.state.specs.ReadLine.{lineFits, stepMost, stepMeasure}
-use Rattle.text.proofs.Tests.{T-and}
-
--- Two tests that hold alike are equal.
-pub same-test : (a b : Bool) → (T a → T b) → (T b → T a) → a ≡ b
-same-test true true f g = refl
-same-test true false f g = absurd (f tt)
-same-test false true f g = absurd (g tt)
-same-test false false f g = refl
+use Rattle.text.proofs.Tests.{T-and, same-test}
 
 -- Every variable is below n exactly if the highest plus 1 is at most n.
 module _ (n : ℕ) where

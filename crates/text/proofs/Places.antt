@@ -68,7 +68,7 @@ cond-bad true = refl
 cond-bad false = refl
 
 -- Too few bytes are left for the word.
-strip-short : (w bs : List ℕ) → length bs < length w → strip w bs ≡ bad
+pub strip-short : (w bs : List ℕ) → length bs < length w → strip w bs ≡ bad
 unfolding strip
 strip-short [] bs h = absurd (omega arith)
 strip-short (w ∷ ws) [] h = refl

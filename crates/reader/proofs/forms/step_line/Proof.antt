@@ -10,20 +10,18 @@ track : (c : tie.After-word4) →
     let claim = c .before .before .before in
     let second = claim .before .before .before in
     let first = second .before .before .before in
-    let k = first .before .before in
-    let a = k .before .before .before .before in
-    let x = a .before .before .before .before .args in
-    StepTrack (now (x .table)) (now (x .s)) (x .at) (x .depth) (a .before .rule .result) (a .spaced .result) (k .before .before .before .spaced2 .result) (k .before .before .spaced3 .result) (k .before .spaced4 .result) (k .spaced5 .result)
-    (first .word .result) (second .before .before .list .result) (second .word2 .result) (claim .before .before .list2 .result) (claim .word3 .result) (c .before .before .clause .result) (c .word4 .result)
+    let head = first .before .before in
+    let x = head .before .before .before .args in
+    StepTrack (now (x .table)) (now (x .s)) (x .at) (x .depth) (head .step-head .result) (first .word .result) (second .before .before .list .result) (second .word2 .result) (claim .before .before .list2 .result)
+    (claim .word3 .result) (c .before .before .clause .result) (c .word4 .result)
 track c =
     let claim = c .before .before .before in
     let second = claim .before .before .before in
     let first = second .before .before .before in
-    let k = first .before .before in
-    let a = k .before .before .before .before in
-    let x = a .before .before .before .before .args in
-    step-track (now (x .table)) (now (x .s)) (x .at) (x .depth) (a .before .rule .ensures .0) (a .spaced .ensures) (k .before .before .before .spaced2 .ensures) (k .before .before .spaced3 .ensures) (k .before .spaced4 .ensures) (k .spaced5 .ensures)
-    (first .word .ensures .0) (second .before .before .list .ensures) (second .word2 .ensures .0) (claim .before .before .list2 .ensures) (claim .word3 .ensures .0) (c .before .before .clause .ensures) (c .word4 .ensures .0)
+    let head = first .before .before in
+    let x = head .before .before .before .args in
+    step-track (now (x .table)) (now (x .s)) (x .at) (x .depth) (head .step-head .ensures) (first .word .ensures .0) (second .before .before .list .ensures) (second .word2 .ensures .0) (claim .before .before .list2 .ensures)
+    (claim .word3 .ensures .0) (c .before .before .clause .ensures) (c .word4 .ensures .0)
 
 returns : tie.Need-returns
 returns c = line-broken _ _ (track (c .before)) (c .if1 .taken)
@@ -34,6 +32,5 @@ returns-2 c = line-whole _ _ (track (c .before .before .before .before)) (omega 
 pub step-line-spec : {M : Type 1} → statement M
 step-line-spec =
     tie.close (tie.spec
-    (λ c κs. tt) (λ c κs. tt) (λ c κs. tt) (λ c κs. tt) (λ c κs. tt) (λ c κs. tt) (λ c. refl) (λ c κs. tt)
-    (λ c κs. tt) (λ c. refl) (λ c κs. tt) (λ c κs. tt) (λ c. refl) (λ c κs. tt) (λ c κs. tt) (λ c. refl) (λ c κs. tt)
-    returns returns-2)
+    (λ c κs. tt) (λ c. refl) (λ c κs. tt) (λ c κs. tt) (λ c. refl) (λ c κs. tt) (λ c κs. tt) (λ c. refl) (λ c κs. tt) (λ c κs. tt) (λ c. refl)
+    (λ c κs. tt) returns returns-2)

@@ -4,8 +4,7 @@ use lib.ListN.{length, drop, length-drop}
 use mathlib.Core.Path.{_≡_, refl, _∙_, ap}
 use native.Mathlib.Omega.{arith}
 use Rattle.text.specs.Read.{strip}
-use Rattle.text.proofs.Places.{end-bad, end-at, end-past, strip-all, strip-more, strip-other}
-use Rattle.scan.proofs.Prefixes.{strip-short}
+use Rattle.text.proofs.Places.{end-bad, end-at, end-past, strip-all, strip-more, strip-other, strip-short}
 use Rattle.scan.proofs.words.word.Statement.{statement}
 use Rattle.scan.proofs.words.word.Tie as tie
 
