@@ -72,7 +72,7 @@ fn print_row(text: &Text, second: f64, fcheck: f64, counts: &Counts) {
     let goal = text.family.goal();
     let verdict = if ratio <= goal { "met" } else { "MISSED" };
     println!(
-        "{:<36} {:>7} {:>6} {:>11.1} {:>9.1} {:>6.2} {:>5.1} {:<7} {:>10} {:>10}",
+        "{:<36} {:>7} {:>6} {:>11.1} {:>9.1} {:>6.2} {:>5.2} {:<7} {:>10} {:>10}",
         text.name,
         text.bytes(),
         text.lines(),
