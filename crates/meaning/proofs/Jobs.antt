@@ -61,7 +61,7 @@ read-append st line (r ∷ rs) qs a =
     let e : line + suc (length rs) ≡ suc line + length rs = omega arith in
     rw e (goes-on st line r rs a (rs ++ qs) ∙ read-append (after st r) (suc line) rs qs (accepted-on st line r rs a))
 
-state-append : (st : State) (rs qs : List Reading) → stateAfter st (rs ++ qs) ≡ stateAfter (stateAfter st rs) qs
+pub state-append : (st : State) (rs qs : List Reading) → stateAfter st (rs ++ qs) ≡ stateAfter (stateAfter st rs) qs
 unfolding stateAfter
 state-append st [] qs = refl
 state-append st (r ∷ rs) qs = state-append (after st r) rs qs

@@ -2,7 +2,7 @@
 -- whatever gives what stands from each place on.
 use Prim.Native.Nat.{ℕ, suc, _+_, _-_, _≤_, _<_}
 use mathlib.Core.Bool.{Bool, true, false, cond, _||_, true≢false}
-use mathlib.Core.List.{List, [], _∷_, _++_, map}
+use mathlib.Core.List.{List, [], _∷_, _++_, map, map-append, append-assoc, append-nil}
 use mathlib.Core.Path.{_≡_, refl, sym, ap, _∙_}
 use native.Mathlib.Omega.{arith}
 use native.Mathlib.Numerals.{add-one}
@@ -10,7 +10,7 @@ use native.Mathlib.Decide.{ℕ-discrete, decLt}
 use borrow.Author.Tests.{eq-eqb, ne-eqb, lt-ltb, ltb-true, ltb-false}
 use lib.Dec.{T, ltb}
 use lib.ListN.{length, getD, set, take, drop, length-append, length-map, take-append-drop}
-use lib.Seq.{getD-set-same, getD-set-other}
+use lib.Seq.{getD-set-same, getD-set-other, take-at}
 use Rattle.logic.specs.declared.Judged.{Judged}
 use Rattle.logic.specs.Syntax.{Step, Line, by, input}
 use Rattle.logic.specs.Syntax as syntax
@@ -43,8 +43,10 @@ use Rattle.meaning.specs.Answer.{stepFailure, failure, finish, readOn, restsIn}
 use Rattle.step.specs.Step.{parentsAt}
 use Rattle.step.specs.Line.{FirstFailing}
 use Rattle.step.proofs.Judging.{read-passes}
+use Rattle.verdict.specs.Running.{linesLength, stateRead}
 use Rattle.verdict.proofs.Kept.{Kept, Keeps, keptWith}
 use Rattle.verdict.proofs.Ends.{clause-count, ends-held, marks-held}
+use Rattle.meaning.proofs.Jobs.{state-append}
 use Rattle.meaning.proofs.Entailed.{Good, good-fresh, good-after, empty-list}
 
 -- The first line of what is left to read.
@@ -97,18 +99,27 @@ pub no-length : (xs : List ℕ) → length xs ≡ 0 → xs ≡ []
 no-length [] e = refl
 no-length (x ∷ xs) e = absurd (omega arith)
 
--- A place between two lines of a text, what is left of it given: what is held represents a state that the rules give, with no more clauses
--- than lines, and reading on from that state is reading the text.
-pub record Reached (F : Figures) (part : ℕ → List ℕ) (text rest : List ℕ) (lines : ℕ) (held : code.HeldState) (k : Kept) : Type 0 where
+-- A place between two lines of a text, what is left of it given: what is held represents the state after the lines that passed, which the
+-- rules give, with no more clauses than lines, and reading on from that state is reading the text.
+pub record Reached (F : Figures) (part : ℕ → List ℕ) (text rest : List ℕ) (at lines : ℕ) (held : code.HeldState) (k : Kept) : Type 0 where
   pub st : State
+  pub passed : List Raw
+  pub parted : split text ≡ passed ++ split rest
+  pub counted : length passed ≡ lines
+  pub place : at ≡ linesLength passed
+  pub read : st ≡ stateRead F passed
   pub holds : Represents (F .depth) part held st
   pub kept : Keeps st k
   pub good : Good st
   pub room : held .clauses ≤ lines
-  pub counted : lines + length (split rest) ≡ length (split text)
   pub few : length (split text) ≤ office .lines
   pub onward : readOn fresh 1 (readings F text) ≡ readOn st (lines + 1) (readings F rest)
-  pub whole : stateOf F text ≡ stateAfter st (readings F rest)
+
+length-lines : (xs ys : List Raw) → linesLength (xs ++ ys) ≡ linesLength xs + linesLength ys
+unfolding linesLength
+length-lines [] ys = omega arith
+length-lines (ended w ∷ xs) ys = omega (arith, length-lines xs ys)
+length-lines (unended w ∷ xs) ys = omega (arith, length-lines xs ys)
 
 neither : (a b : Bool) → a || b ≡ false → (a ≡ false) × (b ≡ false)
 neither true b e = absurd (true≢false e)
@@ -121,12 +132,17 @@ text-within F text e =
     (ltb-false (F .bytes) (length text) b, ltb-false (F .lines) (length (split text)) l)
 
 pub reached-first : (F : Figures) (part : ℕ → List ℕ) (text : List ℕ) → UpToOffice F → tooLarge F text ≡ false → (held : code.HeldState) (k : Kept) →
-    Begins held → length (k .literals) ≡ office .lines → length (k .widths) ≡ office .lines → Reached F part text text 0 held k
-unfolding Begins fresh clauses stateOf HeldFrom
+    Begins held → length (k .literals) ≡ office .lines → length (k .widths) ≡ office .lines → Reached F part text text 0 0 held k
+unfolding Begins fresh clauses HeldFrom linesLength stateRead stateAfter
 reached-first F part text u e held k b l w =
     let R = b (F .depth) part in
     record {
       st = fresh;
+      passed = [];
+      parted = refl;
+      counted = refl;
+      place = refl;
+      read = refl;
       holds = R;
       kept = record {
         first = tt;
@@ -135,13 +151,23 @@ reached-first F part text u e held k b l w =
       };
       good = good-fresh;
       room = omega (arith, R .count);
-      counted = omega arith;
       few = omega (arith, text-within F text e .1, u .lines);
       onward = refl;
-      whole = refl;
     }
 
-module _ {F : Figures} {part : ℕ → List ℕ} {text rest : List ℕ} {lines : ℕ} {held : code.HeldState} {k : Kept} (P : Reached F part text rest lines held k) (h : 0 < length rest)
+module _ {F : Figures} {part : ℕ → List ℕ} {text rest : List ℕ} {at lines : ℕ} {held : code.HeldState} {k : Kept} (P : Reached F part text rest at lines held k) where
+  pub lines-left : lines + length (split rest) ≡ length (split text)
+  lines-left = omega (arith, P .counted, ap length (P .parted), length-append (P .passed) (split rest))
+
+  -- The lines before the next one are those that passed.
+  pub before-next : take lines (split text) ≡ P .passed
+  before-next = rw (P .parted) (take-at (P .passed) (split rest) lines (P .counted))
+
+  pub before-end : rest ≡ [] → split text ≡ P .passed
+  unfolding split
+  before-end e = P .parted ∙ rw (e, append-nil)
+
+module _ {F : Figures} {part : ℕ → List ℕ} {text rest : List ℕ} {at lines : ℕ} {held : code.HeldState} {k : Kept} (P : Reached F part text rest at lines held k) (h : 0 < length rest)
     {n : ℕ} (N : n ≡ failure (P .st) (readLine (F .depth) (firstLine rest))) where
   raw-failure : (raw : Raw) (raws : List Raw) → split rest ≡ raw ∷ raws → n ≡ failure (P .st) (readRaw (F .depth) raw)
   raw-failure raw raws q = N ∙ ap (failure (P .st)) (sym (raw-read rest h (F .depth) raw raws q))
@@ -170,7 +196,7 @@ module _ {F : Figures} {part : ℕ → List ℕ} {text rest : List ℕ} {lines :
       rw (bytes-length rest l, bytes-ended rest l) (sym (take-append-drop (lineLength rest) rest))
 
   pub clause-room : held .clauses < office .lines
-  clause-room = let (raw, raws, q) = some-line rest h in omega (arith, P .room, P .counted, P .few, ap length q)
+  clause-room = let (raw, raws, q) = some-line rest h in omega (arith, P .room, lines-left P, P .few, ap length q)
 
   went-on : (raw : Raw) (raws : List Raw) → split rest ≡ raw ∷ raws → n ≡ 0 →
       readOn (P .st) (lines + 1) (readings F rest) ≡ readOn (after (P .st) (readRaw (F .depth) raw)) (suc (lines + 1)) (map (readRaw (F .depth)) raws)
@@ -179,8 +205,8 @@ module _ {F : Figures} {part : ℕ → List ℕ} {text rest : List ℕ} {lines :
 
   module _ (a : Added) (z : n ≡ 0) (A : Represents (F .depth) part (withAdded held a) (after (P .st) (readLine (F .depth) (firstLine rest))))
       {k′ : Kept} (B : Keeps (after (P .st) (readLine (F .depth) (firstLine rest))) k′) where
-    pub reached-after : Reached F part text (drop (length (firstLine rest) + 1) rest) (lines + 1) (withAdded held a) k′
-    unfolding readings stateAfter
+    pub reached-after : Reached F part text (drop (length (firstLine rest) + 1) rest) (at + (length (firstLine rest) + 1)) (lines + 1) (withAdded held a) k′
+    unfolding readings stateAfter stateRead linesLength
     reached-after =
         let l = line-is-ended z in
         let raw = ended (take (lineLength rest) rest) in
@@ -190,14 +216,17 @@ module _ {F : Figures} {part : ℕ → List ℕ} {text rest : List ℕ} {lines :
         let R : Represents (F .depth) part (withAdded held a) (after (P .st) (readRaw (F .depth) raw)) = rw e A in
         record {
           st = after (P .st) (readRaw (F .depth) raw);
+          passed = P .passed ++ (raw ∷ []);
+          parted = P .parted ∙ rw (q, append-assoc);
+          counted = omega (arith, P .counted, length-append (P .passed) (raw ∷ []));
+          place = omega (arith, P .place, length-lines (P .passed) (raw ∷ []), ap length (bytes-ended rest l));
+          read = rw (map-append, state-append, ← P .read);
           holds = R;
           kept = rw e B;
           good = rw e (good-after F (P .st) (readLine (F .depth) (firstLine rest)) (P .good) (sym N ∙ z));
           room = omega (arith, R .count, P .holds .count, P .room, clauses-after (P .st) (readRaw (F .depth) raw));
-          counted = omega (arith, P .counted, ap length q);
           few = P .few;
           onward = P .onward ∙ went-on raw raws q z ∙ rw (add-one (lines + 1));
-          whole = P .whole ∙ rw q;
         }
 
 -- The parents that a line uses are held with the others.
@@ -236,16 +265,16 @@ step-parents : (table bytes : List ℕ) (t : Step) → parentsAt (lineOf table b
 unfolding lineOf stepOf parentsAt
 step-parents table bytes t = refl
 
-module _ {F : Figures} {part : ℕ → List ℕ} {text rest : List ℕ} {lines : ℕ} {held : code.HeldState} {k : Kept} (P : Reached F part text rest lines held k) where
+module _ {F : Figures} {part : ℕ → List ℕ} {text rest : List ℕ} {at lines : ℕ} {held : code.HeldState} {k : Kept} (P : Reached F part text rest at lines held k) where
   pub held-within : held .clauses ≤ office .lines
-  held-within = omega (arith, P .room, P .counted, P .few)
+  held-within = omega (arith, P .room, lines-left P, P .few)
 
   -- All lines are read.
   pub reached-end : length rest ≡ 0 → (readOn fresh 1 (readings F text) ≡ finish (P .st)) × (stateOf F text ≡ P .st)
-  unfolding readings split readOn stateAfter
+  unfolding readings split readOn stateOf stateRead
   reached-end h =
       let e : rest ≡ [] = no-length rest h in
-      (P .onward ∙ rw e, P .whole ∙ rw e)
+      (P .onward ∙ rw e, rw (before-end P e, ← P .read))
 
   pub finished : length rest ≡ 0 → {constant : Bool} {first : ℕ} {v : Verdict} {marks : List Bool} (before : List Bool) → v ≡ endsAs constant (held .clauses) first →
       marks ≡ marksAs constant (held .clauses) first (held .inputs) (k .a) (k .b) before → constant ≡ hasConstant (heldTable held) →
@@ -258,7 +287,7 @@ module _ {F : Figures} {part : ℕ → List ℕ} {text rest : List ℕ} {lines :
       (q ∙ sym w, ap named m ∙ marks-held (P .holds) (P .kept) falls held-within c f before z ∙ rw (g, q))
 
 -- The line from a place that is reached on, as the code sees it, with what it holds of the clauses before it.
-module _ {F : Figures} {part : ℕ → List ℕ} {text rest : List ℕ} {lines : ℕ} {held : code.HeldState} {k : Kept} (P : Reached F part text rest lines held k) {bytes : List ℕ}
+module _ {F : Figures} {part : ℕ → List ℕ} {text rest : List ℕ} {at lines : ℕ} {held : code.HeldState} {k : Kept} (P : Reached F part text rest at lines held k) {bytes : List ℕ}
     (e : bytes ≡ firstLine rest) (s : Seen) (S : Sees (F .depth) (held .counts) (held .symbols) (held .clauses) (held .inputs) bytes s) where
   read : (s .failure ≡ readFailure (P .st) (readLine (F .depth) bytes)) × (s .line ≡ lineOf (P .st .symbols) bytes (readLine (F .depth) bytes))
   unfolding Sees

@@ -6,6 +6,7 @@ use mathlib.Core.List.{List, [], _++_}
 use mathlib.Core.Logic.{_⊎_, inl, inr}
 use mathlib.Core.Path.{_≡_, refl, sym, ap, ap₂, subst, _∙_}
 use native.Mathlib.Omega.{arith}
+use native.Mathlib.Numerals.{add-one}
 use native.Mathlib.Decide.{ℕ-discrete, decLt}
 use borrow.Author.Tests.{eq-eqb, ne-eqb, lt-ltb, le-ltb}
 use lib.Dec.{T, ltb}
@@ -17,14 +18,14 @@ use Rattle.state.specs.declared.HeldState as code
 use Rattle.state.specs.declared.Seen.{Seen}
 use Rattle.state.specs.declared.Added.{Added}
 use Rattle.text.specs.Read.{readLine, readRaw}
-use Rattle.text.specs.Split.{split, tooLarge}
+use Rattle.text.specs.Split.{Raw, split, tooLarge}
 use Rattle.text.specs.declared.Figures.{Figures}
 use Rattle.text.specs.Figures.{office, maxSymbols, UpToOffice}
 use Rattle.text.specs.Size.{firstLine, partAt}
 use Rattle.text.proofs.Places.{past}
 use Rattle.text.proofs.Sizes.{part-on}
 use Rattle.state.specs.ReadLine.{heldTable, withAdded}
-use Rattle.state.specs.State.{State, fresh, clauses, hasConstant, after}
+use Rattle.state.specs.State.{State, fresh, clauses, hasConstant, after, stateAfter}
 use Rattle.state.specs.Represents.{Represents, Begins, LineStands, Adds}
 use Rattle.meaning.specs.declared.Verdict.{Verdict}
 use Rattle.meaning.specs.declared.Verdict.the-variants.{Refuted, Open, Refused}
@@ -32,12 +33,12 @@ use Rattle.meaning.specs.Checks.{readings, stateOf}
 use Rattle.meaning.specs.Means.{named}
 use Rattle.meaning.specs.Guarantee.{isAccepted}
 use Rattle.meaning.specs.Answer.{failure, firstEmpty, acceptedAs, finish, readOn, verdict, restsIn, rests, jointly}
-use Rattle.verdict.specs.Running.{Answers}
+use Rattle.verdict.specs.Running.{Answers, textRead, linesBefore, linesLength, linesPassed, stateRead, StopsAt}
 use Rattle.step.specs.Step.{parentsAt, leftOf, seamFailure}
 use Rattle.verdict.proofs.Kept.{Kept, Keeps, keptWith}
 use Rattle.verdict.proofs.Ends.{symbols-within}
-use Rattle.verdict.proofs.Running.{Reached, text-within, reached-first, line-refused, line-within, line-before, clause-room, reached-after, reached-end, finished, no-length}
-use Rattle.meaning.proofs.Jobs.{read-verdict, lines-append, read-joined, state-joined, jointly-alone, jointly-joined, jointly-nothing}
+use Rattle.verdict.proofs.Running.{Reached, text-within, reached-first, line-refused, line-within, line-before, clause-room, reached-after, reached-end, finished, no-length, lines-left, before-next, before-end}
+use Rattle.meaning.proofs.Jobs.{read-verdict, lines-append, read-joined, jointly-alone, jointly-joined, jointly-nothing}
 
 -- Which text is read, and what is left of it at a place of the two.
 pub record Alone (base : List ℕ) (at : ℕ) (text rest : List ℕ) : Type 0 where
@@ -59,7 +60,7 @@ pub record Place (Stage : List ℕ → List ℕ → Type 0) (F : Figures) (base 
   pub stage : Stage text rest
   pub fits : at + length rest ≤ office .bytes
   pub within : at + length rest ≤ length base + length job
-  pub reached : Reached F (partAt base job) text rest lines held k
+  pub reached : Reached F (partAt base job) text rest at lines held k
 
 -- The reading came there.
 abbrev pub Came : Figures → List ℕ → List ℕ → ℕ → ℕ → code.HeldState → Kept → Type 0
@@ -118,6 +119,16 @@ finish-unaccepted : (st : State) → hasConstant (st .symbols) ≡ false → fin
 unfolding finish
 finish-unaccepted st e = rw e
 
+-- Where all lines have passed the verdict names none.
+ends-all : (constant : Bool) (count first : ℕ) (raws : List Raw) → linesBefore (endsAs constant count first) raws ≡ raws
+unfolding endsAs acceptedAs linesBefore
+ends-all false count first raws = refl
+ends-all true count first raws = go (ltb first count)
+  where
+    go : (b : Bool) → linesBefore (cond b (Refuted count first) (Open count)) raws ≡ raws
+    go true = refl
+    go false = refl
+
 base-passed : (base job : List ℕ) (at : ℕ) → length (partAt base job at) ≡ 0 → length base ≤ at
 base-passed base job at h = go (decLt at (length base))
   where
@@ -128,28 +139,56 @@ base-passed base job at h = go (decLt at (length base))
 -- A refusal names no input.
 refusal-answers : (F : Figures) (base job text : List ℕ) (n l : ℕ) {ns : List ℕ} → jointly F base job ≡ text → Refused n l ≡ verdict F text → ns ≡ [] →
     Answers F base job (Refused n l) ns
-unfolding Answers rests restsIn
-refusal-answers F base job text n l j v z = rw (j, ← v) (refl, z)
+unfolding rests restsIn
+refusal-answers F base job text n l j v z = record { is = rw j v; names = rw (j, ← v) z }
+
+-- What is held where the reading stopped, once the answer is known and the text whose lines are read.
+abbrev pub Stopped : Figures → List ℕ → List ℕ → Verdict → List ℕ → code.HeldState → ℕ → Type 0
+Stopped F base job v ns held at = Answers F base job v ns × StopsAt F base job held at
 
 -- A base that is too large by itself.
-pub large-answers : (F : Figures) (base job : List ℕ) {ns : List ℕ} → tooLarge F base ≡ true → ns ≡ [] → Answers F base job (Refused 1 0) ns
-unfolding verdict isAccepted
-large-answers F base job t z =
+pub large-stopped : (F : Figures) (base job : List ℕ) {ns : List ℕ} {held : code.HeldState} → tooLarge F base ≡ true → ns ≡ [] → Begins held → Stopped F base job (Refused 1 0) ns held 0
+unfolding verdict isAccepted Begins textRead linesBefore linesLength linesPassed split stateRead stateAfter
+large-stopped F base job t z b =
     let w : Refused 1 0 ≡ verdict F base = rw t in
-    refusal-answers F base job base 1 0 (jointly-alone F base job (ap isAccepted (sym w))) w z
+    let j = jointly-alone F base job (ap isAccepted (sym w)) in
+    let q : linesPassed F base job ≡ [] = rw (j, ← w, t) in
+    (refusal-answers F base job base 1 0 j w z, record { state = rw q (b (F .depth) (partAt base job)); place = rw q })
+
+module _ {F : Figures} {base job text rest : List ℕ} {at lines : ℕ} {held : code.HeldState} {k : Kept} (P : Reached F (partAt base job) text rest at lines held k) (t : textRead F base job ≡ text)
+    {v : Verdict} {ns : List ℕ} (A : Answers F base job v ns) where
+  stopped : linesBefore v (split text) ≡ P .passed → Stopped F base job v ns held at
+  unfolding linesPassed
+  stopped e =
+      let q : linesPassed F base job ≡ P .passed = rw (← A .is, t) e in
+      (A, record { state = rw (q, ← P .read) (P .holds); place = P .place ∙ ap linesLength (sym q) })
+
+  stopped-end : rest ≡ [] → linesBefore v (split text) ≡ split text → Stopped F base job v ns held at
+  stopped-end e b = stopped (b ∙ before-end P e)
+
+stopped-line : {F : Figures} {base job text rest : List ℕ} {at lines : ℕ} {held : code.HeldState} {k : Kept} (P : Reached F (partAt base job) text rest at lines held k) →
+    textRead F base job ≡ text → {n : ℕ} {ns : List ℕ} → Answers F base job (Refused n (lines + 1)) ns → Stopped F base job (Refused n (lines + 1)) ns held at
+unfolding linesBefore
+stopped-line {lines = lines} P t A = stopped P t A (rw (add-one lines) (before-next P))
 
 module _ (F : Figures) (base job : List ℕ) (u : UpToOffice F) (small : tooLarge F base ≡ false) where
-  -- The verdict of the base, or of the two, as it is read.
-  alone-answers : (n l : ℕ) {ns : List ℕ} → Refused n l ≡ readOn fresh 1 (readings F base) → ns ≡ [] → Answers F base job (Refused n l) ns
-  unfolding isAccepted
-  alone-answers n l v z =
-      let w = v ∙ read-verdict F base small in
-      refusal-answers F base job base n l (jointly-alone F base job (ap isAccepted (sym w))) w z
+  read-alone : jointly F base job ≡ base → textRead F base job ≡ base
+  unfolding textRead
+  read-alone j = rw (j, small)
 
+  read-both : jointly F base job ≡ base ++ job → tooLarge F (base ++ job) ≡ false → textRead F base job ≡ base ++ job
+  unfolding textRead
+  read-both j s = rw (j, small, s)
+
+  read-base : jointly F base job ≡ base ++ job → tooLarge F (base ++ job) ≡ true → textRead F base job ≡ base
+  unfolding textRead
+  read-base j s = rw (j, small, s)
+
+  -- The answer to a text as it is read.
   text-answers : (text : List ℕ) → tooLarge F text ≡ false → jointly F base job ≡ text → {v : Verdict} {ns : List ℕ} →
       (v ≡ readOn fresh 1 (readings F text)) × (ns ≡ restsIn (stateOf F text) v) → Answers F base job v ns
-  unfolding Answers rests
-  text-answers text s j (e, g) = let w = e ∙ read-verdict F text s in rw (j, ← w) (refl, g)
+  unfolding rests
+  text-answers text s j (e, g) = let w = e ∙ read-verdict F text s in record { is = rw j w; names = rw (j, ← w) g }
 
   pub came-first : (held : code.HeldState) (k : Kept) → Begins held → length (k .literals) ≡ office .lines → length (k .widths) ≡ office .lines → Came F base job 0 0 held k
   came-first held k b l w = record {
@@ -164,10 +203,10 @@ module _ (F : Figures) (base job : List ℕ) (u : UpToOffice F) (small : tooLarg
   module _ {at lines : ℕ} {held : code.HeldState} {k : Kept} (P : Came F base job at lines held k) where
     -- Where the base ends: all its lines are read.
     module _ (q : at ≡ length base) where
-      base-read : Reached F (partAt base job) base [] lines held k
+      base-read : Reached F (partAt base job) base [] at lines held k
       base-read = go (P .stage)
         where
-          go : Alone base at (P .text) (P .rest) ⊎ (Joined F base job at (P .text) (P .rest) × (length base < at)) → Reached F (partAt base job) base [] lines held k
+          go : Alone base at (P .text) (P .rest) ⊎ (Joined F base job at (P .text) (P .rest) × (length base < at)) → Reached F (partAt base job) base [] at lines held k
           go (inl A) =
               let e : P .rest ≡ [] = A .left ∙ past base at (omega (arith, q)) in
               rw (A .is, e) at (P .reached)
@@ -175,7 +214,7 @@ module _ (F : Figures) (base job : List ℕ) (u : UpToOffice F) (small : tooLarg
 
       base-lines : lines ≡ length (split base)
       unfolding split
-      base-lines = omega (arith, base-read .counted)
+      base-lines = omega (arith, lines-left base-read)
 
       module _ {n : ℕ} (N : n ≡ seamFailure F (take (held .symbols) (held .counts)) (length base) at lines job) where
         abbrev st : State
@@ -202,18 +241,20 @@ module _ (F : Figures) (base job : List ℕ) (u : UpToOffice F) (small : tooLarg
         number-of true c = N ∙ rw (eq-eqb at (length base) q, table-is, c, both-large c)
         number-of false c = N ∙ rw (eq-eqb at (length base) q, table-is, c)
 
-        seam-answers : (n ≡ 0 → ⊥) → {ns : List ℕ} → ns ≡ [] → Answers F base job (Refused n 0) ns
-        unfolding verdict
-        seam-answers z {ns} g = go (hasConstant (st .symbols)) refl (tooLarge F (base ++ job)) refl
+        seam-stopped : (n ≡ 0 → ⊥) → {ns : List ℕ} → ns ≡ [] → Stopped F base job (Refused n 0) ns held at
+        unfolding verdict isAccepted linesBefore
+        seam-stopped z {ns} g = go (hasConstant (st .symbols)) refl (tooLarge F (base ++ job)) refl
           where
-            go : (c : Bool) → hasConstant (st .symbols) ≡ c → (b : Bool) → tooLarge F (base ++ job) ≡ b → Answers F base job (Refused n 0) ns
+            go : (c : Bool) → hasConstant (st .symbols) ≡ c → (b : Bool) → tooLarge F (base ++ job) ≡ b → Stopped F base job (Refused n 0) ns held at
             go true c true b =
                 let k : n ≡ 1 = number-of true c ∙ rw b in
-                refusal-answers F base job (base ++ job) n 0 (jointly-joined F base job (base-taken c)) (rw (b, k)) g
+                let j = jointly-joined F base job (base-taken c) in
+                stopped-end base-read (read-base j b) (refusal-answers F base job (base ++ job) n 0 j (rw (b, k)) g) refl refl
             go true c false b = absurd (z (number-of true c ∙ rw b))
             go false c b _ =
-                let k : n ≡ 4 = number-of false c in
-                alone-answers n 0 (rw k (sym (reached-end base-read refl .0 ∙ finish-unaccepted st c))) g
+                let w : Refused n 0 ≡ verdict F base = rw (number-of false c) (sym (base-verdict ∙ finish-unaccepted st c)) in
+                let j = jointly-alone F base job (ap isAccepted (sym w)) in
+                stopped-end base-read (read-alone j) (refusal-answers F base job base n 0 j w g) refl refl
 
         module _ (z : n ≡ 0) where
           constant-there : hasConstant (st .symbols) ≡ true
@@ -230,7 +271,7 @@ module _ (F : Figures) (base job : List ℕ) (u : UpToOffice F) (small : tooLarg
               go true b = let k : n ≡ 1 = number-of true constant-there ∙ rw b in absurd (omega (arith, z, k))
               go false b = b
 
-          job-reached : Reached F (partAt base job) (base ++ job) job lines held k
+          job-reached : Reached F (partAt base job) (base ++ job) job at lines held k
           unfolding readings
           job-reached =
               let a : T (isAccepted (verdict F base)) = rw (base-taken constant-there) tt in
@@ -239,14 +280,17 @@ module _ (F : Figures) (base job : List ℕ) (u : UpToOffice F) (small : tooLarg
               let k : 1 + length (readings F base) ≡ lines + 1 = omega (arith, base-lines, length-map (split base) (readRaw (F .depth))) in
               record {
                 st = st;
+                passed = base-read .passed;
+                parted = s ∙ rw (before-end base-read refl);
+                counted = base-read .counted;
+                place = base-read .place;
+                read = base-read .read;
                 holds = base-read .holds;
                 kept = base-read .kept;
                 good = base-read .good;
                 room = base-read .room;
-                counted = omega (arith, base-lines, ap length s, length-append (split base) (split job));
                 few = omega (arith, text-within F (base ++ job) both-small .1, u .lines);
                 onward = read-joined F base small a job ∙ rw (w .1, k);
-                whole = state-joined F base small a job ∙ rw (w .1);
               }
 
           job-ahead : Ahead F base job at lines held k
@@ -271,16 +315,16 @@ module _ (F : Figures) (base job : List ℕ) (u : UpToOffice F) (small : tooLarg
     lines-within = go (P .stage)
       where
         go : Alone base at (P .text) (P .rest) ⊎ (Joined F base job at (P .text) (P .rest) × (length base < at)) → lines ≤ F .lines
-        go (inl A) = omega (arith, P .reached .counted, ap (λ t. length (split t)) (A .is), text-within F base small .1)
-        go (inr (J, l)) = omega (arith, P .reached .counted, ap (λ t. length (split t)) (J .is), text-within F (base ++ job) (J .small) .1)
+        go (inl A) = omega (arith, lines-left (P .reached), ap (λ t. length (split t)) (A .is), text-within F base small .1)
+        go (inr (J, l)) = omega (arith, lines-left (P .reached), ap (λ t. length (split t)) (J .is), text-within F (base ++ job) (J .small) .1)
 
     pub seam-refused : {n : ℕ} → n ≡ seamFailure F (take (held .symbols) (held .counts)) (length base) at lines job → (n ≡ 0 → ⊥) → {ns : List ℕ} → ns ≡ [] →
-        Answers F base job (Refused n 0) ns
+        Stopped F base job (Refused n 0) ns held at
     unfolding seamFailure
     seam-refused {n} N z {ns} g = go (ℕ-discrete at (length base))
       where
-        go : Dec (at ≡ length base) → Answers F base job (Refused n 0) ns
-        go (yes q) = seam-answers q N z g
+        go : Dec (at ≡ length base) → Stopped F base job (Refused n 0) ns held at
+        go (yes q) = seam-stopped q N z g
         go (no q) = absurd (z (N ∙ rw (ne-eqb at (length base) q)))
 
     -- A line is ahead: of the base, or of the job, whose beginning is passed.
@@ -298,22 +342,33 @@ module _ (F : Figures) (base job : List ℕ) (u : UpToOffice F) (small : tooLarg
     -- All lines are read.
     pub came-end : length base + min (length job) (office .bytes + 1) ≤ at → {constant : Bool} {first : ℕ} {v : Verdict} {marks : List Bool} (before : List Bool) →
         v ≡ endsAs constant (held .clauses) first → marks ≡ marksAs constant (held .clauses) first (held .inputs) (k .a) (k .b) before → constant ≡ hasConstant (heldTable held) →
-        first ≡ firstZero (take (held .clauses) (k .literals)) → named before ≡ [] → Answers F base job v (named marks)
-    came-end e {v = v} {marks = marks} before f m c d z = go (P .stage)
+        first ≡ firstZero (take (held .clauses) (k .literals)) → named before ≡ [] → Stopped F base job v (named marks) held at
+    came-end e {constant} {first} {v} {marks} before f m c d z = go (P .stage)
       where
         h : length (partAt base job at) ≡ 0
         h = part-none base job at e (omega (arith, P .fits))
 
-        go : Alone base at (P .text) (P .rest) ⊎ (Joined F base job at (P .text) (P .rest) × (length base < at)) → Answers F base job v (named marks)
+        all : (raws : List Raw) → linesBefore v raws ≡ raws
+        all raws = rw f (ends-all constant (held .clauses) first raws)
+
+        ended-by : (text : List ℕ) → tooLarge F text ≡ false → jointly F base job ≡ text → textRead F base job ≡ text → P .text ≡ text → P .rest ≡ [] →
+            Stopped F base job v (named marks) held at
+        ended-by text s j t q r =
+            let R : Reached F (partAt base job) text (P .rest) at lines held k = rw q at (P .reached) in
+            stopped-end R t (text-answers text s j (finished R (ap length r) before f m c d z)) r (all (split text))
+
+        go : Alone base at (P .text) (P .rest) ⊎ (Joined F base job at (P .text) (P .rest) × (length base < at)) → Stopped F base job v (named marks) held at
         go (inl A) =
             let w : length base ≤ at = base-passed base job at h in
             let e : P .rest ≡ [] = A .left ∙ past base at w in
             let k : at - length base ≡ 0 = omega (arith, A .within) in
             let j : job ≡ [] = no-length job (rw (part-job base job at w, k) at h) in
-            text-answers base small (rw j (jointly-nothing F base)) (rw (A .is) at (finished (P .reached) (ap length e) before f m c d z))
+            let t : jointly F base job ≡ base = rw j (jointly-nothing F base) in
+            ended-by base small t (read-alone t) (A .is) e
         go (inr (J, l)) =
             let e : P .rest ≡ partAt base job at = J .left ∙ sym (part-job base job at (J .within)) in
-            text-answers (base ++ job) (J .small) (jointly-joined F base job (J .accepted)) (rw (J .is) at (finished (P .reached) (ap length e ∙ h) before f m c d z))
+            let t = jointly-joined F base job (J .accepted) in
+            ended-by (base ++ job) (J .small) t (read-both t (J .small)) (J .is) (no-length (P .rest) (ap length e ∙ h))
 
   -- A line as it was read, once its number is known.
   module _ {at lines : ℕ} {held : code.HeldState} {k : Kept} (P : Ahead F base job at lines held k) (some : 0 < length (partAt base job at)) {n : ℕ}
@@ -321,17 +376,24 @@ module _ (F : Figures) (base job : List ℕ) (u : UpToOffice F) (small : tooLarg
     left-some : 0 < length (P .rest)
     left-some = rw (P .stage .1) some
 
-    pub line-answer : (n ≡ 0 → ⊥) → {ns : List ℕ} → ns ≡ [] → Answers F base job (Refused n (lines + 1)) ns
-    line-answer z {ns} g = go (P .stage .0)
+    pub line-stopped : (n ≡ 0 → ⊥) → {ns : List ℕ} → ns ≡ [] → Stopped F base job (Refused n (lines + 1)) ns held at
+    unfolding isAccepted
+    line-stopped z {ns} g = go (P .stage .0)
       where
-        w : Refused n (lines + 1) ≡ readOn fresh 1 (readings F (P .text))
-        w = line-refused (P .reached) left-some N z
+        refused-by : (text : List ℕ) → tooLarge F text ≡ false → P .text ≡ text → Refused n (lines + 1) ≡ verdict F text
+        refused-by text s q = line-refused (P .reached) left-some N z ∙ rw q (read-verdict F text s)
 
-        go : (Alone base at (P .text) (P .rest) × (at < length base)) ⊎ Joined F base job at (P .text) (P .rest) → Answers F base job (Refused n (lines + 1)) ns
-        go (inl (A, l)) = alone-answers n (lines + 1) (w ∙ ap (λ t. readOn fresh 1 (readings F t)) (A .is)) g
+        stopped-by : (text : List ℕ) → tooLarge F text ≡ false → P .text ≡ text → jointly F base job ≡ text → textRead F base job ≡ text →
+            Stopped F base job (Refused n (lines + 1)) ns held at
+        stopped-by text s q j t = stopped-line (rw q at (P .reached)) t (refusal-answers F base job text n (lines + 1) j (refused-by text s q) g)
+
+        go : (Alone base at (P .text) (P .rest) × (at < length base)) ⊎ Joined F base job at (P .text) (P .rest) → Stopped F base job (Refused n (lines + 1)) ns held at
+        go (inl (A, l)) =
+            let j = jointly-alone F base job (ap isAccepted (sym (refused-by base small (A .is)))) in
+            stopped-by base small (A .is) j (read-alone j)
         go (inr J) =
-            refusal-answers F base job (base ++ job) n (lines + 1) (jointly-joined F base job (J .accepted))
-            (w ∙ ap (λ t. readOn fresh 1 (readings F t)) (J .is) ∙ read-verdict F (base ++ job) (J .small)) g
+            let j = jointly-joined F base job (J .accepted) in
+            stopped-by (base ++ job) (J .small) (J .is) j (read-both j (J .small))
 
     pub room-here : held .clauses < office .lines
     room-here = clause-room (P .reached) left-some N

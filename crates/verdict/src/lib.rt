@@ -8,6 +8,7 @@ use outcome::first_empty;
 use source::first_line;
 use source::part_at;
 use source::too_large;
+use state::HeldState;
 use state::adds;
 use state::constant_held;
 use state::fresh;
@@ -31,7 +32,21 @@ ghost use Rattle.meaning.specs.Means.{Means, named};
 ghost use Rattle.meaning.specs.Answer.{verdict, rests, jointly};
 ghost use Rattle.meaning.specs.Guarantee.{Guarantee};
 ghost use Rattle.meaning.specs.Job.{JobMeans, JobGuarantee};
-ghost use Rattle.verdict.specs.Running.{Answers};
+ghost use Rattle.verdict.specs.Running.{Answers, StopsAt};
+
+// Where a reading stopped: the verdict, the state after the lines that passed, and how far they reach: the place of the line that failed.
+struct Stop {
+    verdict: Verdict,
+    state: HeldState,
+    at: usize,
+}
+
+// What is read of a text, or of a base and a job: the answer, and what is held where the reading stopped.
+pub struct JobRead {
+    pub answer: Answer,
+    pub state: HeldState,
+    pub at: usize,
+}
 
 // How far two texts reach: one byte further than a text may, where they are longer.
 fn reach(base: usize, job: usize) -> usize
@@ -47,14 +62,10 @@ fn reach(base: usize, job: usize) -> usize
 // The lines of the base and then those of the job, one after the other, up to the first that fails. The state is handed on and comes back
 // after each line; beside it the loop keeps of each clause the parents that it uses, its number of literals and its width. The inputs on
 // which a refutation rests are marked in rests, where nothing is marked before.
-fn read_on<'a>(
-    base: &'a [u8],
-    job: &'a [u8],
-    figures: Figures,
-    rests: &mut [bool; LINES],
-) -> Verdict
+fn read_on<'a>(base: &'a [u8], job: &'a [u8], figures: Figures, rests: &mut [bool; LINES]) -> Stop
     requires { ⌜ (tooLarge figures (now base) ≡ false) × UpToOffice figures × (named (now rests) ≡ []) ⌝ }
-    ensures { λ r. ⌜ Answers figures (now (base .entry)) (now (job .entry)) r (named (now (rests .exit))) ⌝ }
+    ensures { λ r. ⌜ Answers figures (now (base .entry)) (now (job .entry)) (r .verdict) (named (now (rests .exit))) ⌝ }
+    ensures { λ r. ⌜ StopsAt figures (now (base .entry)) (now (job .entry)) (r .state) (r .at) ⌝ }
 {
     let whole = reach(base.len(), job.len());
     let mut state = fresh();
@@ -68,7 +79,8 @@ fn read_on<'a>(
         let symbols = state.symbols;
         let number = seam(figures, &state.counts, symbols, base.len(), at, lines, job);
         if number != 0 {
-            return Verdict::Refused { number, line: 0 };
+            let verdict = Verdict::Refused { number, line: 0 };
+            return Stop { verdict, state, at };
         }
         let bytes = first_line(part_at(base, job, at));
         let clauses = state.clauses;
@@ -87,7 +99,8 @@ fn read_on<'a>(
         );
         let line = lines + 1;
         if number != 0 {
-            return Verdict::Refused { number, line };
+            let verdict = Verdict::Refused { number, line };
+            return Stop { verdict, state, at };
         }
         let l = seen.line;
         let used = parents(l);
@@ -108,7 +121,8 @@ fn read_on<'a>(
     let count = state.clauses;
     let inputs = state.inputs;
     let first = first_empty(&literals, count);
-    finish(constant, count, first, inputs, &used_a, &used_b, rests)
+    let verdict = finish(constant, count, first, inputs, &used_a, &used_b, rests);
+    Stop { verdict, state, at }
 }
 
 // The verdict on a base and a job: check 1 of the base, and then the lines. The inputs on which a refutation rests are marked in rests,
@@ -118,14 +132,46 @@ fn verdict_on<'a>(
     job: &'a [u8],
     figures: Figures,
     rests: &mut [bool; LINES],
-) -> Verdict
+) -> Stop
     requires { ⌜ UpToOffice figures × (named (now rests) ≡ []) ⌝ }
-    ensures { λ r. ⌜ Answers figures (now (base .entry)) (now (job .entry)) r (named (now (rests .exit))) ⌝ }
+    ensures { λ r. ⌜ Answers figures (now (base .entry)) (now (job .entry)) (r .verdict) (named (now (rests .exit))) ⌝ }
+    ensures { λ r. ⌜ StopsAt figures (now (base .entry)) (now (job .entry)) (r .state) (r .at) ⌝ }
 {
     if too_large(base, figures) {
-        return Verdict::Refused { number: 1, line: 0 };
+        let verdict = Verdict::Refused { number: 1, line: 0 };
+        let state = fresh();
+        return Stop {
+            verdict,
+            state,
+            at: 0,
+        };
     }
     read_on(base, job, figures, rests)
+}
+
+// One reading of a base and a job: the answer, the state after the lines before the one that fails, and the place of that line; where no
+// line fails, the state after all of them, and the place where they end.
+pub fn read_job<'a>(base: &'a [u8], job: &'a [u8]) -> JobRead
+    ensures { λ r. ⌜ r .answer .verdict ≡ verdict office (jointly office (now (base .entry)) (now (job .entry))) ⌝ }
+    ensures { λ r. ⌜ named (r .answer .rests) ≡ rests office (jointly office (now (base .entry)) (now (job .entry))) ⌝ }
+    ensures { λ r. ⌜ StopsAt office (now (base .entry)) (now (job .entry)) (r .state) (r .at) ⌝ }
+    ensures { λ _. ⌜ (now (base .exit) ≡ now (base .entry)) × (now (job .exit) ≡ now (job .entry)) ⌝ }
+{
+    let figures = Figures {
+        bytes: BYTES,
+        lines: LINES,
+        depth: DEPTH,
+    };
+    let mut rests = [false; LINES];
+    let stop = verdict_on(base, job, figures, &mut rests);
+    let verdict = stop.verdict;
+    let state = stop.state;
+    let answer = Answer { verdict, rests };
+    JobRead {
+        answer,
+        state,
+        at: stop.at,
+    }
 }
 
 // The answer to a base and a job, and what it means: that of the base, if it is refused, and otherwise that of the two in a row.
@@ -136,14 +182,8 @@ pub fn check_job<'a>(base: &'a [u8], job: &'a [u8]) -> Answer
     ensures { λ r. ⌜ JobGuarantee office (now (base .entry)) (now (job .entry)) (r .verdict) (named (r .rests)) ⌝ }
     ensures { λ _. ⌜ (now (base .exit) ≡ now (base .entry)) × (now (job .exit) ≡ now (job .entry)) ⌝ }
 {
-    let figures = Figures {
-        bytes: BYTES,
-        lines: LINES,
-        depth: DEPTH,
-    };
-    let mut rests = [false; LINES];
-    let verdict = verdict_on(base, job, figures, &mut rests);
-    Answer { verdict, rests }
+    let read = read_job(base, job);
+    read.answer
 }
 
 // The answer to a text, and what it means: a base with no job.

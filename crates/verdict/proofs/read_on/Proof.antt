@@ -14,8 +14,8 @@ use Rattle.state.specs.declared.HeldState as code
 use Rattle.state.specs.declared.Added.{Added}
 use Rattle.state.specs.ReadLine.{heldTable, symbolHeld, clauseHeld, withAdded}
 use Rattle.verdict.proofs.Kept.{Kept}
-use Rattle.verdict.proofs.Running.{text-within, line-number, line-kept}
-use Rattle.verdict.proofs.TwoTexts.{Came, Ahead, LineRead, part-some, came-first, came-ahead, came-end, came-as, came-after, seam-refused, line-answer, line-stands, line-after, room-here}
+use Rattle.verdict.proofs.Running.{text-within, lines-left, line-number, line-kept}
+use Rattle.verdict.proofs.TwoTexts.{Came, Ahead, LineRead, part-some, came-first, came-ahead, came-end, came-as, came-after, seam-refused, line-stopped, line-stands, line-after, room-here}
 use Rattle.verdict.proofs.read_on.Statement.{statement}
 use Rattle.verdict.proofs.read_on.Tie as tie
 
@@ -91,13 +91,13 @@ line-read c =
 
 -- There are no more lines than the figures allow.
 add-line : tie.Need-add-line Inv-loop μ-loop
-add-line c = let P = line-read c .ahead .reached in omega (arith, P .counted, P .few)
+add-line c = let P = line-read c .ahead .reached in omega (arith, lines-left P, P .few)
 
 returns-2 : tie.Need-returns-2 Inv-loop μ-loop
 returns-2 c =
     let r = line-read (c .before) in
     let d = c .before .before .before .before .before .before .before .before .before .before .before .before .before .before .before .before .before .before in
-    line-answer _ _ _ (r .figures) (r .small) (r .ahead) (r .some) (r .number) (c .if2 .taken) (d .before .before .before .before .before .pre .2)
+    line-stopped _ _ _ (r .figures) (r .small) (r .ahead) (r .some) (r .number) (c .if2 .taken) (d .before .before .before .before .before .pre .2)
 
 -- There is room for a clause more.
 clause-fits : (c : tie.After-failing Inv-loop μ-loop) → c .before .before .before .before .before .before .before .before .before .before .before .before .before .before .before .before .before .loop .state .clauses < office .lines
