@@ -27,7 +27,7 @@ use Rattle.state.proofs.StateCode.{zero-or}
 use Rattle.rules.specs.Judging.{HoldsClause, Judges}
 use Rattle.rules.proofs.JudgeMeets.{judge-meets}
 use Rattle.meaning.specs.Answer.{stepFailure, failure}
-use Rattle.step.specs.Step.{slotOf, sizeAt, judgedAt, stepNumber, failingAt}
+use Rattle.step.specs.Step.{slotOf, sizeAt, clauseAt, judgedAt, stepNumber, failingAt}
 use Rattle.step.specs.Line.{FirstFailing}
 
 -- Checks 2 to 6, and then those of a step.
@@ -91,8 +91,8 @@ slot-below n {k} e = go (ltb n (office .lines)) refl
 module _ {depth : ℕ} {part : ℕ → List ℕ} {held : code.HeldState} {st : State} (R : Represents depth part held st) {literals widths : List ℕ} (S : Sized st literals widths) where
   -- Clause n, where there is one, is held at its slot.
   holds : held .clauses ≤ office .lines → (n : ℕ) → n < length (clauses st) →
-      HoldsClause depth (part (getD (held .starts) (slotOf n) 0)) (sizeAt literals widths n) (getD (clauses st) n [])
-  unfolding slotOf
+      HoldsClause depth (clauseAt part (held .starts) n) (sizeAt literals widths n) (getD (clauses st) n [])
+  unfolding slotOf clauseAt
   holds room n h =
       let P = R .places n h in
       rw (lt-ltb n (office .lines) (omega (arith, R .count)))
@@ -105,7 +105,7 @@ module _ {depth : ℕ} {part : ℕ → List ℕ} {held : code.HeldState} {st : S
     unfolding judgedAt Judges stepOf
     step-judged s e passes =
         let short = lists-short st s passes in
-        judge-meets depth (held .clauses) (part (getD (held .starts) (slotOf (s .a)) 0)) (sizeAt literals widths (s .a)) (part (getD (held .starts) (slotOf (s .b)) 0)) (sizeAt literals widths (s .b)) line
+        judge-meets depth (held .clauses) (clauseAt part (held .starts) (s .a)) (sizeAt literals widths (s .a)) (clauseAt part (held .starts) (s .b)) (sizeAt literals widths (s .b)) line
         (stepOf (st .symbols) line s) (clauses st) s (st .symbols) (R .count) (holds room (s .a)) (holds room (s .b)) refl e (short .0) (short .1)
 
     number-of : (r : Reading) → readLine depth line ≡ r → readFailure st r ≡ 0 →

@@ -27,11 +27,14 @@ slotOf n = cond (ltb n (office .lines)) n 0
 abbrev pub sizeAt : List ℕ → List ℕ → ℕ → Size
 sizeAt literals widths n = record { literals = getD literals (slotOf n) 0; width = getD widths (slotOf n) 0 }
 
+-- What stands from it on.
+unfoldable pub clauseAt : (ℕ → List ℕ) → List ℕ → ℕ → List ℕ
+clauseAt part starts n = part (getD starts (slotOf n) 0)
+
 -- Checks 7 to 11 of a step.
 unfoldable pub judgedAt : ℕ → (ℕ → List ℕ) → List ℕ → List ℕ → List ℕ → ℕ → List ℕ → StepAt → Judged
 judgedAt depth part starts literals widths own line s =
-    let place : ℕ → List ℕ = λ n. part (getD starts (slotOf n) 0) in
-    stepAt depth own (place (s .a)) (sizeAt literals widths (s .a)) (place (s .b)) (sizeAt literals widths (s .b)) line s
+    stepAt depth own (clauseAt part starts (s .a)) (sizeAt literals widths (s .a)) (clauseAt part starts (s .b)) (sizeAt literals widths (s .b)) line s
 
 unfoldable pub stepNumber : ℕ → (ℕ → List ℕ) → List ℕ → List ℕ → List ℕ → ℕ → List ℕ → LineAt → ℕ
 stepNumber depth part starts literals widths own line NoForm = 0

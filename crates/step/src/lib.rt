@@ -18,7 +18,7 @@ ghost use mathlib.Core.Path.{_≡_};
 ghost use lib.ListN.{take};
 ghost use Rattle.logic.specs.StepChecks.{judgedNumber};
 ghost use Rattle.text.specs.Size.{partAt};
-ghost use Rattle.step.specs.Step.{slotOf, judgedAt, failingAt, parentsAt, seamFailure};
+ghost use Rattle.step.specs.Step.{slotOf, sizeAt, clauseAt, judgedAt, failingAt, parentsAt, seamFailure};
 ghost use Rattle.step.specs.Line.{FirstFailing};
 
 // Where clause n is held; the first place where there is no room for it.
@@ -58,6 +58,22 @@ fn size(literals: u8, width: u8) -> Size
     }
 }
 
+// What stands from clause n on.
+fn clause_at<'a>(base: &'a [u8], job: &'a [u8], starts: &[u16; LINES], n: usize) -> &'a [u8]
+    ensures { λ r. ⌜ now r ≡ clauseAt (partAt (now (base .entry)) (now (job .entry))) (now (starts .entry)) n ⌝ }
+{
+    let at = slot(n);
+    part_at(base, job, place(starts[at]))
+}
+
+// Its number of literals and its width.
+fn size_at(literals: &[u8; LINES], widths: &[u8; LINES], n: usize) -> Size
+    ensures { λ r. ⌜ r ≡ sizeAt (now (literals .entry)) (now (widths .entry)) n ⌝ }
+{
+    let at = slot(n);
+    size(literals[at], widths[at])
+}
+
 // Checks 7 to 11 of a step, by what is held of its parents: their places, numbers of literals and widths.
 fn judged<'a>(
     depth: u8,
@@ -74,12 +90,10 @@ fn judged<'a>(
         ⌜ r ≡ judgedAt depth (partAt (now (base .entry)) (now (job .entry))) (now (starts .entry)) (now (literals .entry))
         (now (widths .entry)) own (now (line .entry)) step ⌝ }
 {
-    let n = slot(step.a);
-    let m = slot(step.b);
-    let p = part_at(base, job, place(starts[n]));
-    let q = part_at(base, job, place(starts[m]));
-    let of_a = size(literals[n], widths[n]);
-    let of_b = size(literals[m], widths[m]);
+    let p = clause_at(base, job, starts, step.a);
+    let q = clause_at(base, job, starts, step.b);
+    let of_a = size_at(literals, widths, step.a);
+    let of_b = size_at(literals, widths, step.b);
     judge(depth, own, p, of_a, q, of_b, line, step)
 }
 
