@@ -30,6 +30,28 @@ abbrev μ-loop : tie.MeasureT-loop
 μ-loop base job figures rests whole state₀ used-a₀ used-b₀ literals₀ widths₀ at₀ lines₀ state used-a used-b literals widths at lines =
     length base + length job - at
 
+-- Points of the code, each by one behind it.
+abbrev start : tie.At-loop Inv-loop μ-loop → tie.Start Inv-loop μ-loop
+start l = l .before .before .before .before .before
+
+abbrev loop-at : tie.After-seam Inv-loop μ-loop → tie.At-loop Inv-loop μ-loop
+loop-at c = c .before .before .before .before .before
+
+abbrev seen-at : tie.After-failing Inv-loop μ-loop → tie.After-see Inv-loop μ-loop
+seen-at c = c .before .before .before .before .before
+
+abbrev bytes-at : tie.After-failing Inv-loop μ-loop → tie.After-first-line Inv-loop μ-loop
+bytes-at c = seen-at c .before .before .before .before
+
+abbrev ahead-at : tie.After-failing Inv-loop μ-loop → tie.Else1 Inv-loop μ-loop
+ahead-at c = bytes-at c .before .before
+
+abbrev line-loop : tie.After-failing Inv-loop μ-loop → tie.At-loop Inv-loop μ-loop
+line-loop c = loop-at (ahead-at c .before)
+
+abbrev failing-at : tie.Joined3 Inv-loop μ-loop → tie.After-failing Inv-loop μ-loop
+failing-at c = c .before .before .before .before
+
 loop-holds : tie.Need-loop-holds Inv-loop μ-loop
 loop-holds c =
     let p = c .before .before .before .before .pre in
@@ -45,37 +67,34 @@ reach-requires c κs =
 -- Where the base ends and the job begins.
 returns : tie.Need-returns Inv-loop μ-loop
 returns c =
-    let l = c .before .before .before .before .before .before in
-    let p = l .before .before .before .before .before .pre in
+    let l = loop-at (c .before) in
+    let p = start l .pre in
     seam-refused _ _ _ (p .1) (p .0) (l .loop .inv .2) (c .before .seam .ensures .0) (c .if1 .taken) (p .2)
 
 -- A line is ahead.
 line-ahead : (c : tie.Else1 Inv-loop μ-loop) →
-    let d = c .before .before .before .before .before .before in
-    let a = d .before .before .before .before .before .args in
-    Ahead (a .figures) (now (a .base)) (now (a .job)) (d .loop .at) (d .loop .lines) (d .loop .state) (kept (d .loop .used-a) (d .loop .used-b) (d .loop .literals) (d .loop .widths))
+    let l = loop-at (c .before) in
+    let a = start l .args in
+    Ahead (a .figures) (now (a .base)) (now (a .job)) (l .loop .at) (l .loop .lines) (l .loop .state) (kept (l .loop .used-a) (l .loop .used-b) (l .loop .literals) (l .loop .widths))
 line-ahead c =
-    let d = c .before .before .before .before .before .before in
-    let p = d .before .before .before .before .before .pre in
-    came-ahead _ _ _ (p .1) (p .0) (d .loop .inv .2) (sym (c .before .seam .ensures .0) ∙ c .if1 .left)
+    let l = loop-at (c .before) in
+    let p = start l .pre in
+    came-ahead _ _ _ (p .1) (p .0) (l .loop .inv .2) (sym (c .before .seam .ensures .0) ∙ c .if1 .left)
 
 -- The line as it was read.
 line-read : (c : tie.After-failing Inv-loop μ-loop) →
-    let see = c .before .before .before .before .before in
-    let line = see .before .before .before .before in
-    let d = line .before .before .before .before .before .before .before .before in
-    let a = d .before .before .before .before .before .args in
-    LineRead (a .figures) (now (a .base)) (now (a .job)) (d .loop .at) (d .loop .lines) (d .loop .state) (kept (d .loop .used-a) (d .loop .used-b) (d .loop .literals) (d .loop .widths)) (now (line .first-line .result)) (see .see .result) (c .failing .result)
+    let l = line-loop c in
+    let a = start l .args in
+    LineRead (a .figures) (now (a .base)) (now (a .job)) (l .loop .at) (l .loop .lines) (l .loop .state) (kept (l .loop .used-a) (l .loop .used-b) (l .loop .literals) (l .loop .widths)) (now (bytes-at c .first-line .result)) (seen-at c .see .result) (c .failing .result)
 line-read c =
-    let see = c .before .before .before .before .before in
-    let line = see .before .before .before .before in
-    let j = line .before .before in
-    let d = j .before .before .before .before .before .before in
-    let a = d .before .before .before .before .before .args in
-    let p = d .before .before .before .before .before .pre in
-    let A = line-ahead j in
+    let see = seen-at c in
+    let line = bytes-at c in
+    let l = line-loop c in
+    let a = start l .args in
+    let p = start l .pre in
+    let A = line-ahead (ahead-at c) in
     let P = A .reached in
-    let some = part-some (now (a .base)) (now (a .job)) (d .loop .at) (office .bytes + 1) (omega (arith, d .before .before .reach .ensures, j .before .before .before .before .before .loop-test .taken)) in
+    let some = part-some (now (a .base)) (now (a .job)) (l .loop .at) (office .bytes + 1) (omega (arith, l .before .before .reach .ensures, ahead-at c .before .before .before .before .before .loop-test .taken)) in
     let e : now (line .first-line .result) ≡ firstLine (A .rest) = line .first-line .ensures .0 ∙ ap firstLine (line .before .part-at .ensures .0 ∙ sym (A .stage .1)) in
     let S = see .see .ensures .1 .0 in
     let n = line-number P e (see .see .result) S _ (c .failing .ensures .1 .0) in
@@ -86,7 +105,7 @@ line-read c =
       ahead = A;
       is = e;
       number = n;
-      kept = λ z x X q Q. line-kept P e (see .see .result) S n z (line-stands _ _ _ (p .1) (p .0) A some n z) (d .loop .inv .0) (d .loop .inv .1) x X q Q;
+      kept = λ z x X q Q. line-kept P e (see .see .result) S n z (line-stands _ _ _ (p .1) (p .0) A some n z) (l .loop .inv .0) (l .loop .inv .1) x X q Q;
     }
 
 -- There are no more lines than the figures allow.
@@ -96,11 +115,10 @@ add-line c = let P = line-read c .ahead .reached in omega (arith, lines-left P, 
 returns-2 : tie.Need-returns-2 Inv-loop μ-loop
 returns-2 c =
     let r = line-read (c .before) in
-    let d = c .before .before .before .before .before .before .before .before .before .before .before .before .before .before .before .before .before .before in
-    line-stopped _ _ _ (r .figures) (r .small) (r .ahead) (r .some) (r .number) (c .if2 .taken) (d .before .before .before .before .before .pre .2)
+    line-stopped _ _ _ (r .figures) (r .small) (r .ahead) (r .some) (r .number) (c .if2 .taken) (start (line-loop (c .before)) .pre .2)
 
 -- There is room for a clause more.
-clause-fits : (c : tie.After-failing Inv-loop μ-loop) → c .before .before .before .before .before .before .before .before .before .before .before .before .before .before .before .before .before .loop .state .clauses < office .lines
+clause-fits : (c : tie.After-failing Inv-loop μ-loop) → line-loop c .loop .state .clauses < office .lines
 clause-fits c = let r = line-read c in room-here _ _ _ (r .figures) (r .small) (r .ahead) (r .some) (r .number)
 
 mul-used-a : tie.Need-mul-used-a Inv-loop μ-loop
@@ -111,15 +129,14 @@ array-write-used-a c = clause-fits (c .before .before .before)
 
 -- The place after the line.
 next-place : (c : tie.Joined3 Inv-loop μ-loop) →
-    let line = c .before .before .before .before .before .before .before .before .before .before .before .before .before in
-    let d = line .before .before .before .before .before .before .before .before in
-    let a = d .before .before .before .before .before .args in
-    let n = d .loop .at + (length (now (line .first-line .result)) + 1) in
+    let g = failing-at c in
+    let l = line-loop g in
+    let a = start l .args in
+    let n = l .loop .at + (length (now (bytes-at g .first-line .result)) + 1) in
     (n ≤ length (now (a .base)) + length (now (a .job))) × (n ≤ office .bytes)
 next-place c =
-    let r = line-read (c .before .before .before .before) in
-    let z = c .before .before .before .if2 .left in
-    let w = line-after _ _ _ (r .figures) (r .small) (r .ahead) (r .some) (r .number) z in
+    let r = line-read (failing-at c) in
+    let w = line-after _ _ _ (r .figures) (r .small) (r .ahead) (r .some) (r .number) (c .before .before .before .if2 .left) in
     (omega (arith, w .0, ap length (r .is)), omega (arith, w .1, ap length (r .is)))
 
 loop-less : tie.Need-loop-less Inv-loop μ-loop
@@ -136,9 +153,8 @@ clause-held held a e = rw e
 
 loop-again : tie.Need-loop-again Inv-loop μ-loop
 loop-again c =
-    let g = c .before .before .before .before in
-    let l = g .before .before .before .before .before .before .before .before .before .before .before .before .before .before .before .before .before .loop in
-    let r = line-read g in
+    let l = line-loop (failing-at c) .loop in
+    let r = line-read (failing-at c) in
     let z = c .before .before .before .if2 .left in
     let K = r .kept z _ (c .before .adds .ensures .1) _ (c .before .before .parents .ensures) in
     let C = came-after _ _ _ (r .figures) (r .small) (r .ahead) (r .some) (r .number) _ z (K .0) (K .1) in
@@ -162,7 +178,7 @@ returns-3 c =
     let constant = f .before .before in
     let e = constant .before .before .before .before in
     let l = e .before in
-    let p = l .before .before .before .before .before .pre in
+    let p = start l .pre in
     came-end _ _ _ (p .1) (p .0) (l .loop .inv .2) (omega (arith, l .before .before .reach .ensures, e .loop-test .left)) _ (c .finish .ensures .0) (c .finish .ensures .1) (constant .constant-held .ensures .0) (f .first-empty .ensures .0) (p .2)
 
 pub read-on-spec : {M : Type 1} → statement M
