@@ -1,8 +1,8 @@
 -- The chains of arguments, results, atoms and literals.
-use Prim.Native.Nat.{ℕ, _+_, _≤_, _<_, max}
+use Prim.Native.Nat.{ℕ, _+_, _≤_, _<_}
 use Prim.Native.String.{String}
 use mathlib.Core.Path.{_≡_, refl, sym, _∙_, ap}
-use mathlib.Core.Bool.{true, false, _&&_}
+use mathlib.Core.Bool.{true, false}
 use mathlib.Core.List.{List, [], _∷_, _++_}
 use native.Mathlib.Omega.{arith}
 use native.Mathlib.Numerals.{add-one}
@@ -10,9 +10,8 @@ use lib.ListN.{length, drop}
 use Rattle.logic.specs.declared.Link.{Link}
 use Rattle.logic.specs.declared.Arrow.{Arrow}
 use Rattle.logic.specs.declared.Arrow.the-variants.{Mt}
-use Rattle.logic.specs.Syntax.{Term, Terms, nil, cons, Result, value, none, mayBeNone, link, obj, method, lit}
-use Rattle.logic.specs.Terms.{count, join, resultTerms, termsOf}
-use Rattle.logic.specs.Each.{any, declares, eachTerms, eachAtom, termsWidth}
+use Rattle.logic.specs.Syntax.{Term, nil, cons, value, none, mayBeNone, link, obj, method, lit}
+use Rattle.logic.specs.Terms.{count, resultTerms}
 use Rattle.reader.specs.declared.measures.Measure.{Measure}
 use Rattle.reader.specs.declared.summaries.Summary.{Summary}
 use Rattle.scan.specs.declared.tables.LinkAt.{LinkAt}
@@ -22,14 +21,14 @@ use Rattle.text.specs.Read.{signs, links, arrows, Parsed, bad, got, Reader, and
 use Rattle.text.specs.Words.{bytes, signWord, linkWord, arrowWord}
 use Rattle.text.specs.Places.{endOf, readOr}
 use Rattle.scan.specs.Tables.{readLinkWord, readArrowWord, linkAt, arrowAt, signAt}
-use Rattle.reader.specs.Summary.{empty, joined, counted, summary, settled, termMeasure, termsMeasure, resultMeasure, atomOf, argumentCount, atomMeasure, literalMeasure}
+use Rattle.reader.specs.Summary.{ofTerm, ofTerms, ofAtom, ofLiteral, arityBounds, joined, bounds, measured, empty, summary, settled, termMeasure, termsMeasure, resultMeasure, atomMeasure, literalMeasure}
 use Rattle.text.proofs.Places.{past}
-use Rattle.text.proofs.Trees.{join-width}
 use Rattle.text.proofs.Plain.{sign-plain, link-plain, arrow-plain, arguments-plain, result-plain, atom-plain, literal-plain}
 use Rattle.text.proofs.Sound.{table-sound, arguments-sound, result-sound, atom-sound, literal-sound}
 use Rattle.text.proofs.Chain.{Stops, stops, word-stops, Track, lost, found, look, onward, lose, losing, handed, hit, miss, first-word, later-word, no-word, last-word}
-use Rattle.reader.proofs.Measuring.{settled-track, ending, measuring, measure-path, and-true, and-assoc}
-use Rattle.reader.proofs.Parts.{term-stops, terms-stops, terms-more}
+use Rattle.reader.proofs.Bounds.{bounds-lawful}
+use Rattle.reader.proofs.Measuring.{settled-track, ending, measuring}
+use Rattle.reader.proofs.Parts.{term-stops, terms-stops}
 
 pub arguments-stops : (d : ℕ) → Stops (readArguments d)
 unfolding readArguments oneOf strip
@@ -62,53 +61,31 @@ pub arrow-stops : Stops readArrowWord
 unfolding readArrowWord oneOf strip
 arrow-stops = stops (table-sound arrowWord arrows) arrow-plain refl
 
--- The measure of the terms of an atom, from those of its parts.
-join-each : (table : List ℕ) (ts us : Terms) → eachTerms any (declares table) (join ts us) ≡ eachTerms any (declares table) ts && eachTerms any (declares table) us
-unfolding eachTerms join
-join-each table nil us = refl
-join-each table (cons t ts) us = rw (join-each table ts us) (simp and-assoc)
-
-link-measure : (table : List ℕ) (l : Link) (t u : Term) → atomOf (joined (termMeasure table t) (termMeasure table u)) 0 ≡ atomMeasure table (link l t u)
-unfolding joined termMeasure atomMeasure argumentCount eachAtom termsOf termsWidth eachTerms
-link-measure table l t u = measure-path refl (omega arith) refl (simp and-true)
-
-object-measure : (table : List ℕ) (t : Term) → atomOf (termMeasure table t) 0 ≡ atomMeasure table (obj t)
-unfolding termMeasure atomMeasure argumentCount eachAtom termsOf termsWidth eachTerms
-object-measure table t = measure-path refl (omega arith) refl (simp and-true)
-
-method-measure : (table : List ℕ) (a : Arrow) (o m : Term) (ts : Terms) (r : Result) → atomOf (joined (joined (termMeasure table o) (termMeasure table m)) (joined (termsMeasure table ts) (resultMeasure table r))) (termsMeasure table ts .count) ≡ atomMeasure table (method a o m ts r)
-unfolding joined termMeasure termsMeasure resultMeasure atomMeasure argumentCount eachAtom termsOf termsWidth eachTerms
-method-measure table a o m ts r = measure-path refl (rw (join-width ts (resultTerms r)) (omega arith)) refl (rw (join-each table ts (resultTerms r)) (simp and-assoc))
-
-value-measure : (table : List ℕ) (t : Term) → termMeasure table t ≡ resultMeasure table (value t)
-unfolding termMeasure resultMeasure resultTerms termsMeasure count termsWidth eachTerms
-value-measure table t = measure-path refl (omega arith) refl (simp and-true)
-
 module _ (table s : List ℕ) (at : ℕ) where
   pub arguments-none : (d : ℕ) {e : ℕ} {m : Measure} → e ≡ endOf s (strip (bytes "()") (drop at s)) → e ≤ length s → m ≡ empty → settled s e m ≡ summary (termsMeasure table) s (readArguments d (drop at s))
-  unfolding readArguments termsMeasure count termsWidth eachTerms
+  unfolding readArguments ofTerms count
   arguments-none d h l q = settled-track (termsMeasure table) s (found nil (first-word "()" _ _ (drop at s) (hit s at (word-stops 40 (41 ∷ [])) h l .1)) l q)
 
-  pub arguments-some : (d : ℕ) {e o : ℕ} {t ts : Summary} {m : Measure} → e ≡ endOf s (strip (bytes "()") (drop at s)) → length s < e → o ≡ endOf s (strip (bytes "(") (drop at s)) → t ≡ summary (termMeasure table) s (readTerm d (drop o s)) → ts ≡ summary (termsMeasure table) s (readTerms (readTerm d) (drop (t .end) s)) → m ≡ counted (ts .measure .count + 1) (joined (t .measure) (ts .measure)) → settled s (ts .end) m ≡ summary (termsMeasure table) s (readArguments d (drop at s))
-  unfolding readArguments
+  pub arguments-some : (d : ℕ) {e o : ℕ} {t ts : Summary} {m : Measure} → e ≡ endOf s (strip (bytes "()") (drop at s)) → length s < e → o ≡ endOf s (strip (bytes "(") (drop at s)) → t ≡ summary (termMeasure table) s (readTerm d (drop o s)) → ts ≡ summary (termsMeasure table) s (readTerms (readTerm d) (drop (t .end) s)) → m ≡ measured (ts .measure .count + 1) (joined (t .measure .bounds) (ts .measure .bounds)) → settled s (ts .end) m ≡ summary (termsMeasure table) s (readArguments d (drop at s))
+  unfolding readArguments ofTerms count
   arguments-some d {e} {o} {t} {ts} h l i j k q =
       settled-track (termsMeasure table) s (onward s at _ (word-stops 40 []) i
       (later-word "()" _ _ (drop at s) (miss s at (word-stops 40 (41 ∷ [])) h l) ∙ last-word "(" _ (drop at s))
       (λ l. lose s (terms-stops d) (ending k) (lose s (term-stops d) (ending j) l))
       λ _ _ _ _ w. onward s o _ (term-stops d) (ending j) w (lose s (terms-stops d) (ending k))
       λ x f _ _ w. onward s (t .end) _ (terms-stops d) (ending k) w (λ l. l)
-      λ xs g _ l w. found (cons x xs) w l (rw (q, measuring (termMeasure table) s j f, measuring (termsMeasure table) s k g, add-one) (sym (terms-more table x xs))))
+      λ xs g _ l w. found (cons x xs) w l (rw (q, measuring (termMeasure table) s j f, measuring (termsMeasure table) s k g, add-one)))
 
   pub result-term : (d : ℕ) (a : Arrow) {e : ℕ} {t : Summary} → e ≡ endOf s (strip (bytes "none") (drop at s)) → length s < e → t ≡ summary (termMeasure table) s (readTerm d (drop at s)) → t ≡ summary (resultMeasure table) s (readResult d a (drop at s))
-  unfolding readResult endOf
+  unfolding readResult endOf ofTerms count resultTerms
   result-term d a h l j = j ∙ go (readTerm d (drop at s)) ∙ ap (summary (resultMeasure table) s) (sym (later-word "none" _ _ (drop at s) (miss s at (word-stops 110 (bytes "one")) h l) ∙ no-word _ [] (drop at s)))
     where
       go : (p : Parsed Term) → summary (termMeasure table) s p ≡ summary (resultMeasure table) s (andThen p (λ t. return (value t)))
       go bad = refl
-      go (got t rest) = rw (value-measure table t)
+      go (got t rest) = rw (bounds-lawful .right (ofTerm (bounds table) t))
 
   pub result-none : (d : ℕ) (a : Arrow) {e : ℕ} {m : Measure} → e ≡ endOf s (strip (bytes "none") (drop at s)) → e ≤ length s → mayBeNone a ≡ true → m ≡ empty → settled s e m ≡ summary (resultMeasure table) s (readResult d a (drop at s))
-  unfolding readResult resultMeasure resultTerms termsMeasure count termsWidth eachTerms
+  unfolding readResult ofTerms count resultTerms
   result-none d a h l b q = settled-track (resultMeasure table) s (found none (first-word "none" _ _ (drop at s) (hit s at (word-stops 110 (bytes "one")) h l .1) ∙ rw b) l q)
 
   pub result-bad : (d : ℕ) (a : Arrow) (m : Measure) {e : ℕ} → e ≡ endOf s (strip (bytes "none") (drop at s)) → e ≤ length s → mayBeNone a ≡ false → settled s (length s + 1) m ≡ summary (resultMeasure table) s (readResult d a (drop at s))
@@ -116,8 +93,8 @@ module _ (table s : List ℕ) (at : ℕ) where
   result-bad d a m h l b = settled-track (resultMeasure table) s (lost (first-word "none" _ _ (drop at s) (hit s at (word-stops 110 (bytes "one")) h l .1) ∙ rw b) refl)
 
   -- `T U)`, `T)` and `O M (T ...) R)` after the word
-  pub link-sum : (d : ℕ) (l : Link) {a b e : ℕ} {t u : Summary} {m : Measure} → a ≡ endOf s (strip (bytes " ") (drop at s)) → t ≡ summary (termMeasure table) s (readTerm d (drop a s)) → b ≡ endOf s (strip (bytes " ") (drop (t .end) s)) → u ≡ summary (termMeasure table) s (readTerm d (drop b s)) → e ≡ endOf s (strip (bytes ")") (drop (u .end) s)) → m ≡ atomOf (joined (t .measure) (u .measure)) 0 → settled s e m ≡ summary (atomMeasure table) s (readLink d l (drop at s))
-  unfolding readLink
+  pub link-sum : (d : ℕ) (l : Link) {a b e : ℕ} {t u : Summary} {m : Measure} → a ≡ endOf s (strip (bytes " ") (drop at s)) → t ≡ summary (termMeasure table) s (readTerm d (drop a s)) → b ≡ endOf s (strip (bytes " ") (drop (t .end) s)) → u ≡ summary (termMeasure table) s (readTerm d (drop b s)) → e ≡ endOf s (strip (bytes ")") (drop (u .end) s)) → m ≡ measured 1 (joined (t .measure .bounds) (u .measure .bounds)) → settled s e m ≡ summary (atomMeasure table) s (readLink d l (drop at s))
+  unfolding readLink ofAtom
   link-sum d l {a} {b} {e} {t} {u} h i j k f q =
       let z = lose s (word-stops 41 []) f in
       let y = losing s (term-stops d) (ending k) z in
@@ -127,19 +104,19 @@ module _ (table s : List ℕ) (at : ℕ) where
       λ t₁ g₁ _ _ w. onward s (t .end) _ (word-stops 32 []) j w y
       λ _ _ _ _ w. onward s b _ (term-stops d) (ending k) w z
       λ u₁ g₂ _ _ w. onward s (u .end) _ (word-stops 41 []) f w (λ l. l)
-      λ _ _ _ n w. found (link l t₁ u₁) w n (rw (q, measuring (termMeasure table) s i g₁, measuring (termMeasure table) s k g₂) (link-measure table l t₁ u₁)))
+      λ _ _ _ n w. found (link l t₁ u₁) w n (rw (q, measuring (termMeasure table) s i g₁, measuring (termMeasure table) s k g₂)))
 
-  pub object-sum : (d : ℕ) {a e : ℕ} {t : Summary} {m : Measure} → a ≡ endOf s (strip (bytes " ") (drop at s)) → t ≡ summary (termMeasure table) s (readTerm d (drop a s)) → e ≡ endOf s (strip (bytes ")") (drop (t .end) s)) → m ≡ atomOf (t .measure) 0 → settled s e m ≡ summary (atomMeasure table) s (readObject d (drop at s))
-  unfolding readObject
-  object-sum d {a} {e} {t} h i f q =
+  pub object-sum : (d : ℕ) {a e : ℕ} {t : Summary} → a ≡ endOf s (strip (bytes " ") (drop at s)) → t ≡ summary (termMeasure table) s (readTerm d (drop a s)) → e ≡ endOf s (strip (bytes ")") (drop (t .end) s)) → settled s e (t .measure) ≡ summary (atomMeasure table) s (readObject d (drop at s))
+  unfolding readObject ofAtom
+  object-sum d {a} {e} {t} h i f =
       let z = lose s (word-stops 41 []) f in
       settled-track (atomMeasure table) s (onward s at _ (word-stops 32 []) h refl (losing s (term-stops d) (ending i) z)
       λ _ _ _ _ w. onward s a _ (term-stops d) (ending i) w z
       λ t₁ g₁ _ _ w. onward s (t .end) _ (word-stops 41 []) f w (λ l. l)
-      λ _ _ _ n w. found (obj t₁) w n (rw (q, measuring (termMeasure table) s i g₁) (object-measure table t₁)))
+      λ _ _ _ n w. found (obj t₁) w n (measuring (termMeasure table) s i g₁))
 
-  pub method-sum : (d : ℕ) (x : Arrow) {a b c f e : ℕ} {o m ts r : Summary} {v : Measure} → a ≡ endOf s (strip (bytes " ") (drop at s)) → o ≡ summary (termMeasure table) s (readTerm d (drop a s)) → b ≡ endOf s (strip (bytes " ") (drop (o .end) s)) → m ≡ summary (termMeasure table) s (readTerm d (drop b s)) → c ≡ endOf s (strip (bytes " ") (drop (m .end) s)) → ts ≡ summary (termsMeasure table) s (readArguments d (drop c s)) → f ≡ endOf s (strip (bytes " ") (drop (ts .end) s)) → r ≡ summary (resultMeasure table) s (readResult d x (drop f s)) → e ≡ endOf s (strip (bytes ")") (drop (r .end) s)) → v ≡ atomOf (joined (joined (o .measure) (m .measure)) (joined (ts .measure) (r .measure))) (ts .measure .count) → settled s e v ≡ summary (atomMeasure table) s (readMethod d x (drop at s))
-  unfolding readMethod
+  pub method-sum : (d : ℕ) (x : Arrow) {a b c f e : ℕ} {o m ts r : Summary} {v : Measure} → a ≡ endOf s (strip (bytes " ") (drop at s)) → o ≡ summary (termMeasure table) s (readTerm d (drop a s)) → b ≡ endOf s (strip (bytes " ") (drop (o .end) s)) → m ≡ summary (termMeasure table) s (readTerm d (drop b s)) → c ≡ endOf s (strip (bytes " ") (drop (m .end) s)) → ts ≡ summary (termsMeasure table) s (readArguments d (drop c s)) → f ≡ endOf s (strip (bytes " ") (drop (ts .end) s)) → r ≡ summary (resultMeasure table) s (readResult d x (drop f s)) → e ≡ endOf s (strip (bytes ")") (drop (r .end) s)) → v ≡ measured 1 (joined (o .measure .bounds) (joined (arityBounds (ts .measure .count)) (joined (m .measure .bounds) (joined (ts .measure .bounds) (r .measure .bounds))))) → settled s e v ≡ summary (atomMeasure table) s (readMethod d x (drop at s))
+  unfolding readMethod ofAtom
   method-sum d x {a} {b} {c} {f} {e} {o} {m} {ts} {r} h₁ i₁ h₂ i₂ h₃ i₃ h₄ i₄ h₅ q =
       let l₈ = lose s (word-stops 41 []) h₅ in
       let l₇ = losing s (result-stops d x) (ending i₄) l₈ in
@@ -157,7 +134,7 @@ module _ (table s : List ℕ) (at : ℕ) where
       λ ts₁ g₃ _ _ w. onward s (ts .end) _ (word-stops 32 []) h₄ w l₇
       λ _ _ _ _ w. onward s f _ (result-stops d x) (ending i₄) w l₈
       λ r₁ g₄ _ _ w. onward s (r .end) _ (word-stops 41 []) h₅ w (λ l. l)
-      λ _ _ _ n w. found (method x o₁ m₁ ts₁ r₁) w n (rw (q, measuring (termMeasure table) s i₁ g₁, measuring (termMeasure table) s i₂ g₂, measuring (termsMeasure table) s i₃ g₃, measuring (resultMeasure table) s i₄ g₄) (method-measure table x o₁ m₁ ts₁ r₁)))
+      λ _ _ _ n w. found (method x o₁ m₁ ts₁ r₁) w n (rw (q, measuring (termMeasure table) s i₁ g₁, measuring (termMeasure table) s i₂ g₂, measuring (termsMeasure table) s i₃ g₃, measuring (resultMeasure table) s i₄ g₄)))
 
 -- The words of a table in front of other branches, and as the last ones.
 abbrev pick : {A B : Type 0} → Parsed A → (A → Reader B) → Parsed B → Parsed B
@@ -224,7 +201,7 @@ module _ (table s : List ℕ) (at d : ℕ) where
   atom-shape h = handed s at (readKind d) (word-stops 40 []) h (kind-needs d)
 
   pub literal-sum : {o b e : ℕ} {g : SignAt} {x : Summary} → o ≡ endOf s (strip (bytes "(") (drop at s)) → g ≡ signAt s (readSign (drop o s)) → b ≡ endOf s (strip (bytes " ") (drop (g .end) s)) → x ≡ summary (atomMeasure table) s (readAtom d (drop b s)) → e ≡ endOf s (strip (bytes ")") (drop (x .end) s)) → settled s e (x .measure) ≡ summary (literalMeasure table) s (readLiteral d (drop at s))
-  unfolding readLiteral literalMeasure
+  unfolding readLiteral ofLiteral
   literal-sum {o} {b} {e} {g} {x} h i j k f =
       let i' : g .end ≡ endOf s (readSign (drop o s)) = ap (λ (g : SignAt). g .end) i in
       let l₄ = lose s (word-stops 41 []) f in

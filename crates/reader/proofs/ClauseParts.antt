@@ -1,19 +1,18 @@
 -- Clauses and lists of terms.
-use Prim.Native.Nat.{ℕ, suc}
+use Prim.Native.Nat.{ℕ}
 use mathlib.Core.Path.{_≡_, refl}
 use mathlib.Core.List.{List, [], _∷_}
 use lib.ListN.{drop}
-use Rattle.logic.specs.Syntax.{Literal, lit, Clause}
-use Rattle.logic.specs.Each.{eachClause, width}
+use Rattle.logic.specs.Syntax.{Literal, Clause}
 use Rattle.text.specs.Words.{bytes}
 use Rattle.text.specs.Read.{strip, readItems, readMany, readTerm, readTerms, readLiteral, readClause, readLet}
 use Rattle.text.specs.Places.{endOf}
-use Rattle.reader.specs.Summary.{empty, joined, counted, mostArguments, atomMeasure, literalMeasure, clauseMeasure}
+use Rattle.reader.specs.Summary.{ofClause, literalMeasure, clauseMeasure}
 use Rattle.text.proofs.Plain.{clause-plain, let-plain}
 use Rattle.text.proofs.Sound.{clause-sound, let-sound}
 use Rattle.text.proofs.Rest.{clause-step}
 use Rattle.text.proofs.Chain.{Stops, stops, word-stops, handed}
-use Rattle.reader.proofs.Loop.{Listed}
+use Rattle.reader.proofs.Loop.{Folds, Listed}
 use Rattle.reader.proofs.AtomParts.{literal-stops}
 
 pub clause-stops : (d : ℕ) → Stops (readClause d)
@@ -25,13 +24,9 @@ unfolding readLet strip
 let-stops d = stops (let-sound d) let-plain refl
 
 -- Literals up to the closing bracket.
-pub clause-none : (table : List ℕ) → clauseMeasure table [] ≡ empty
-unfolding clauseMeasure width mostArguments eachClause
-clause-none table = refl
-
-pub clause-more : (table : List ℕ) (l : Literal) (c : Clause) → clauseMeasure table (l ∷ c) ≡ counted (suc (clauseMeasure table c .count)) (joined (literalMeasure table l) (clauseMeasure table c))
-unfolding clauseMeasure literalMeasure atomMeasure joined width mostArguments eachClause
-clause-more table (lit g x) c = refl
+pub literals-fold : (table : List ℕ) → Folds [] _∷_ (literalMeasure table) (clauseMeasure table)
+unfolding ofClause
+literals-fold table = (refl, λ l c. refl)
 
 abbrev pub literal-list : ℕ → List ℕ → Listed Literal Clause
 literal-list d table = record {
@@ -42,8 +37,7 @@ literal-list d table = record {
   list = clauseMeasure table;
   step = clause-step d;
   stops = literal-stops d;
-  of-none = clause-none table;
-  of-more = clause-more table;
+  folds = literals-fold table;
 }
 
 -- After their words.

@@ -1,3 +1,4 @@
+pub mod Bounds
 pub mod Measuring
 pub mod Loop
 pub mod Parts

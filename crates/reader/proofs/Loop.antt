@@ -1,6 +1,6 @@
 -- Items after one space each, up to the closing bracket, read and summed up in one loop.
 use Prim.Native.Nat.{ℕ, suc, _+_, _≤_, _<_}
-use mathlib.Core.Path.{_≡_, refl, sym, _∙_, ap, subst}
+use mathlib.Core.Path.{_≡_, refl, sym, _∙_, ap, ap₂}
 use mathlib.Core.Bool.{cond}
 use mathlib.Core.List.{List, [], _∷_, _++_}
 use native.Mathlib.Omega.{arith}
@@ -8,28 +8,18 @@ use native.Mathlib.Decide.{decLe}
 use borrow.Author.Tests.{le-leb}
 use lib.Dec.{leb}
 use lib.ListN.{length, drop, length-drop, length-append}
+use Rattle.reader.specs.declared.measures.Bounds.{Bounds}
 use Rattle.reader.specs.declared.measures.Measure.{Measure}
 use Rattle.reader.specs.declared.summaries.Summary.{Summary}
 use Rattle.text.specs.Words.{bytes}
 use Rattle.text.specs.Read.{Parsed, bad, got, Reader, andThen, return, strip, _⇒_, orElse, oneOf, readNext, readItems, readMany}
 use Rattle.text.specs.Places.{endOf}
-use Rattle.reader.specs.Summary.{empty, joined, counted, summary, settled}
+use Rattle.reader.specs.Summary.{noBounds, joined, measured, empty, summary, settled}
 use Rattle.text.proofs.Gives.{strip-gives, given}
 use Rattle.text.proofs.Places.{past}
 use Rattle.text.proofs.Chain.{Stops, word-stops, Track, look, onward, hit, miss, farther, at-most}
-use Rattle.reader.proofs.Measuring.{settled-track, ending, measuring, measure-path, and-true, and-assoc}
-
-joined-none : (m : Measure) → counted (m .count) (joined empty m) ≡ m
-unfolding joined
-joined-none m = measure-path refl (omega arith) (omega arith) refl
-
-none-joined : (n : ℕ) (m : Measure) → counted (n + 0) (joined m empty) ≡ counted n m
-unfolding joined
-none-joined n m = measure-path (omega arith) (omega arith) (omega arith) (and-true (m .declared))
-
-joined-assoc : (n k : ℕ) (a b c : Measure) → counted (n + suc k) (joined a (joined b c)) ≡ counted (n + 1 + k) (joined (joined a b) c)
-unfolding joined
-joined-assoc n k a b c = measure-path (omega arith) (omega arith) (omega arith) (and-assoc (a .declared) (b .declared) (c .declared))
+use Rattle.reader.proofs.Bounds.{bounds-lawful}
+use Rattle.reader.proofs.Measuring.{settled-track, ending, measuring}
 
 after-return : {A : Type 0} (p : Parsed A) → p ≡ andThen p return
 after-return bad = refl
@@ -44,6 +34,10 @@ regroup : {A S : Type 0} (p : Parsed A) (others : Reader S) (more : A → S → 
 regroup bad others more front = refl
 regroup (got a rest) others more front = after-after (others rest) (λ x. return (more a x)) (λ x. return (front x))
 
+-- The measure of a list is that of its items, from left to right.
+abbrev pub Folds : {A S : Type 0} → S → (A → S → S) → (A → Measure) → (S → Measure) → Type 0
+Folds {A} {S} none more item list = (list none ≡ empty) × ((a : A) (x : S) → list (more a x) ≡ measured (suc (list x .count)) (joined (item a .bounds) (list x .bounds)))
+
 -- Items in a list, their reader, and the measures of an item and of a list.
 pub record Listed (A S : Type 0) : Type 0 where
   pub none : S
@@ -53,8 +47,7 @@ pub record Listed (A S : Type 0) : Type 0 where
   pub list : S → Measure
   pub step : (bs : List ℕ) → readMany none more read bs ≡ readNext none more read (readMany none more read) bs
   pub stops : Stops read
-  pub of-none : list none ≡ empty
-  pub of-more : (a : A) (x : S) → list (more a x) ≡ counted (suc (list x .count)) (joined (item a) (list x))
+  pub folds : Folds none more item list
 
 -- A space and an item, or the closing bracket: where a space stands, and where none does.
 space-next : {A S : Type 0} (none : S) (more : A → S → S) (read : Reader A) (others : Reader S) (bs : List ℕ) {rest : List ℕ} → strip (bytes " ") bs ≡ got tt rest → readNext none more read others bs ≡ andThen (read rest) (λ a bs. andThen (others bs) (λ x. return (more a x)))
@@ -80,27 +73,26 @@ module _ {A S : Type 0} (L : Listed A S) (s : List ℕ) (at : ℕ) where
   abbrev readAll : Reader S
   readAll = readMany (L .none) (L .more) (L .read)
 
-  -- The items before the place i have this number and this measure.
-  data Lane (i n : ℕ) (m : Measure) : Type 0 where
+  -- The items before the place i have this number and these bounds.
+  data Lane (i n : ℕ) (m : Bounds) : Type 0 where
     lost : readAll (drop at s) ≡ bad → length s < i → Lane i n m
-    found : (front : S → S) → readAll (drop at s) ≡ andThen (readAll (drop i s)) (λ x. return (front x)) → i ≤ length s → ((x : S) → L .list (front x) ≡ counted (n + L .list x .count) (joined m (L .list x))) → Lane i n m
+    found : (front : S → S) → readAll (drop at s) ≡ andThen (readAll (drop i s)) (λ x. return (front x)) → i ≤ length s → ((x : S) → L .list (front x) ≡ measured (n + L .list x .count) (joined m (L .list x .bounds))) → Lane i n m
 
   -- So in the loop, with the place after the space at i.
-  pub record Going (i n next : ℕ) (m : Measure) : Type 0 where
+  pub record Going (i n next : ℕ) (m : Bounds) : Type 0 where
     lane : Lane i n m
     pub few : n ≤ i
     pub space : next ≡ endOf s (strip (bytes " ") (drop i s))
 
-  pub start : {next : ℕ} {m : Measure} → m ≡ empty → next ≡ endOf s (strip (bytes " ") (drop at s)) → Going at 0 next m
+  pub start : {next : ℕ} {m : Bounds} → m ≡ noBounds → next ≡ endOf s (strip (bytes " ") (drop at s)) → Going at 0 next m
   unfolding readMany readItems
   start {next} {m} e h = record { lane = rw e (go (decLe at (length s))); few = omega arith; space = h }
     where
-      go : Dec (at ≤ length s) → Lane at 0 empty
-      go (yes l) = found (λ x. x) (after-return (readAll (drop at s))) l (λ x. sym (joined-none (L .list x)) ∙ ap (λ n. counted n (joined empty (L .list x))) (omega arith))
+      go : Dec (at ≤ length s) → Lane at 0 (noBounds)
+      go (yes l) = found (λ x. x) (after-return (readAll (drop at s))) l (λ x. ap₂ measured (omega arith) (sym (bounds-lawful .left (L .list x .bounds))))
       go (no l) = lost (ap readAll (past s at (omega arith))) (omega arith)
 
-  turn-lane : {i n next : ℕ} {m : Measure} {t : Summary} → Lane i n m → next ≡ endOf s (strip (bytes " ") (drop i s)) → next ≤ length s → t ≡ summary (L .item) s (L .read (drop next s)) → Lane (t .end) (n + 1) (joined m (t .measure))
-  unfolding joined
+  turn-lane : {i n next : ℕ} {m : Bounds} {t : Summary} → Lane i n m → next ≡ endOf s (strip (bytes " ") (drop i s)) → next ≤ length s → t ≡ summary (L .item) s (L .read (drop next s)) → Lane (t .end) (n + 1) (joined m (t .measure .bounds))
   turn-lane {i} (lost b l) h k e = let (_, _, j) = hit s i (word-stops 32 []) h k in absurd (omega arith)
   turn-lane {i} {n} {next} {m} {t} (found front w l f) h k e = go (look s next (L .stops) (ending e))
     where
@@ -110,11 +102,11 @@ module _ {A S : Type 0} (L : Listed A S) (s : List ℕ) (at : ℕ) where
       onto : readAll (drop at s) ≡ andThen (L .read (drop next s)) (λ a bs. andThen (readAll bs) (λ x. return (front (L .more a x))))
       onto = w ∙ rw (L .step (drop i s) ∙ space-next (L .none) (L .more) (L .read) readAll (drop i s) spaced) (regroup (L .read (drop next s)) readAll (L .more) front)
 
-      go : Track s (λ _. next ≤ t .end) (L .read (drop next s)) (t .end) → Lane (t .end) (n + 1) (joined m (t .measure))
+      go : Track s (λ _. next ≤ t .end) (L .read (drop next s)) (t .end) → Lane (t .end) (n + 1) (joined m (t .measure .bounds))
       go (Track.lost b l) = lost (onto ∙ rw b) (omega arith)
-      go (Track.found a g l _) = found (λ x. front (L .more a x)) (onto ∙ rw g) l (λ x. f (L .more a x) ∙ rw (L .of-more a x, measuring (L .item) s e g) (joined-assoc n (L .list x .count) m (L .item a) (L .list x)))
+      go (Track.found a g l _) = found (λ x. front (L .more a x)) (onto ∙ rw g) l (λ x. f (L .more a x) ∙ rw (L .folds .1 a x, measuring (L .item) s e g) (ap₂ measured (omega arith) (bounds-lawful .assoc m (L .item a .bounds) (L .list x .bounds))))
 
-  module _ {i n next : ℕ} {m : Measure} (g : Going i n next m) where
+  module _ {i n next : ℕ} {m : Bounds} (g : Going i n next m) where
     -- Each turn goes on, so the number of turns is bounded.
     pub within : next ≤ length s → n < length s
     within k = omega (arith, beyond s i 32 [] (g .space) k, g .few)
@@ -122,19 +114,19 @@ module _ {A S : Type 0} (L : Listed A S) (s : List ℕ) (at : ℕ) where
     pub going-on : {t : Summary} → next ≤ length s → t ≡ summary (L .item) s (L .read (drop next s)) → (i < t .end) × (n + 1 ≤ t .end) × (t .end ≤ length s + 1)
     going-on k e = let b = beyond s i 32 [] (g .space) k in let f = farther s next (L .stops) (ending e) k in let u = at-most s (L .read (drop next s)) (ending e) in omega (arith, g .few)
 
-    pub turn : {next' : ℕ} {m' : Measure} {t : Summary} → next ≤ length s → t ≡ summary (L .item) s (L .read (drop next s)) → m' ≡ joined m (t .measure) → next' ≡ endOf s (strip (bytes " ") (drop (t .end) s)) → Going (t .end) (n + 1) next' m'
+    pub turn : {next' : ℕ} {m' : Bounds} {t : Summary} → next ≤ length s → t ≡ summary (L .item) s (L .read (drop next s)) → m' ≡ joined m (t .measure .bounds) → next' ≡ endOf s (strip (bytes " ") (drop (t .end) s)) → Going (t .end) (n + 1) next' m'
     turn k e q h = record { lane = rw q (turn-lane (g .lane) (g .space) k e); few = going-on k e .1; space = h }
 
-    pub finish : {e : ℕ} → length s < next → e ≡ endOf s (strip (bytes ")") (drop i s)) → settled s e (counted n m) ≡ summary (L .list) s (readAll (drop at s))
+    pub finish : {e : ℕ} → length s < next → e ≡ endOf s (strip (bytes ")") (drop i s)) → settled s e (measured n m) ≡ summary (L .list) s (readAll (drop at s))
     unfolding endOf strip
     finish {e} k q = go (g .lane)
       where
-        go : Lane i n m → settled s e (counted n m) ≡ summary (L .list) s (readAll (drop at s))
+        go : Lane i n m → settled s e (measured n m) ≡ summary (L .list) s (readAll (drop at s))
         go (lost b l) = settled-track (L .list) s (Track.lost b (q ∙ rw (past s i (omega arith))))
         go (found front w l f) =
             settled-track (L .list) s (onward s i (λ _. return (front (L .none))) (word-stops 41 []) q
             (w ∙ rw (L .step (drop i s) ∙ no-space-next (L .none) (L .more) (L .read) readAll (drop i s) (miss s i (word-stops 32 []) (g .space) k)) (after-after (strip (bytes ")") (drop i s)) (λ _. return (L .none)) (λ x. return (front x))))
-            (λ l. l) λ _ _ _ l w. Track.found (front (L .none)) w l (sym (f (L .none) ∙ rw (L .of-none) (none-joined n m))))
+            (λ l. l) λ _ _ _ l w. Track.found (front (L .none)) w l (sym (f (L .none) ∙ rw (L .folds .0) (ap₂ measured (omega arith) (bounds-lawful .right m)))))
 
     -- Nothing was read.
     pub over : (x : Measure) → length s < i → settled s (length s + 1) x ≡ summary (L .list) s (readAll (drop at s))
@@ -145,22 +137,22 @@ module _ {A S : Type 0} (L : Listed A S) (s : List ℕ) (at : ℕ) where
         go (found front w l f) = absurd (omega arith)
 
   -- The same at a place alone.
-  abbrev pub On : ℕ → ℕ → Measure → Type 0
+  abbrev pub On : ℕ → ℕ → Bounds → Type 0
   On i n m = Going i n (endOf s (strip (bytes " ") (drop i s))) m
 
-  pub spaced : {i n next : ℕ} {m : Measure} → On i n m → next ≡ endOf s (strip (bytes " ") (drop i s)) → Going i n next m
+  pub spaced : {i n next : ℕ} {m : Bounds} → On i n m → next ≡ endOf s (strip (bytes " ") (drop i s)) → Going i n next m
   spaced g h = record { lane = g .lane; few = g .few; space = h }
 
   -- A turn goes on, to a place in the text or just past it.
-  pub turned : {i n next : ℕ} {m m' : Measure} {t : Summary} → Going i n next m → next ≤ length s → t ≡ summary (L .item) s (L .read (drop next s)) → m' ≡ joined m (t .measure) → On (t .end) (n + 1) m' × (i < t .end) × (t .end ≤ length s + 1)
+  pub turned : {i n next : ℕ} {m m' : Bounds} {t : Summary} → Going i n next m → next ≤ length s → t ≡ summary (L .item) s (L .read (drop next s)) → m' ≡ joined m (t .measure .bounds) → On (t .end) (n + 1) m' × (i < t .end) × (t .end ≤ length s + 1)
   turned g k e q = let b = going-on g k e in (turn g k e q refl, b .0, b .2)
 
   -- The same with an item whose measure holds only where it was read.
-  pub advance : {i n next e : ℕ} {m m' : Measure} (x : Measure) → Going i n next m → next ≤ length s → settled s e x ≡ summary (L .item) s (L .read (drop next s)) → m' ≡ joined m x → On e (n + 1) m' × (i < e) × (e ≤ length s + 1)
+  pub advance : {i n next e : ℕ} {m m' : Bounds} (x : Measure) → Going i n next m → next ≤ length s → settled s e x ≡ summary (L .item) s (L .read (drop next s)) → m' ≡ joined m (x .bounds) → On e (n + 1) m' × (i < e) × (e ≤ length s + 1)
   unfolding settled
   advance {i} {n} {next} {e} {m} {m'} x g k h q = let t = turned g k h refl in (rw q (record { lane = go (decLe e (length s)) (t .0 .lane); few = t .0 .few; space = refl }), t .1, t .2)
     where
-      go : Dec (e ≤ length s) → Lane e (n + 1) (joined m (cond (leb e (length s)) x empty)) → Lane e (n + 1) (joined m x)
-      go (yes l) w = subst (λ y. Lane e (n + 1) (joined m y)) (rw (le-leb e (length s) l)) w
+      go : Dec (e ≤ length s) → Lane e (n + 1) (joined m (cond (leb e (length s)) x empty .bounds)) → Lane e (n + 1) (joined m (x .bounds))
+      go (yes l) w = rw (le-leb e (length s) l) at w
       go (no l) (lost b l') = lost b l'
       go (no l) (found front w l' f) = absurd (omega arith)

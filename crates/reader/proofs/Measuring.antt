@@ -1,7 +1,7 @@
 -- Summaries of what is read at a place.
 use Prim.Native.Nat.{ℕ, zero, suc, _+_, _≤_, _<_}
 use mathlib.Core.Path.{_≡_, refl, _∙_, ap}
-use mathlib.Core.Bool.{Bool, true, false, _&&_}
+use mathlib.Core.Bool.{false}
 use mathlib.Core.List.{List, [], _∷_}
 use native.Mathlib.Omega.{arith}
 use borrow.Author.Tests.{le-leb, lt-leb}
@@ -20,18 +20,6 @@ use Rattle.text.proofs.Gives.{Gives, nothing, gives}
 use Rattle.text.proofs.Number.{number-sound, bounded}
 use Rattle.text.proofs.Places.{end-at}
 use Rattle.text.proofs.Chain.{Track, lost, found}
-
--- A measure is its four parts.
-pub measure-path : {a b : Measure} → a .count ≡ b .count → a .width ≡ b .width → a .arguments ≡ b .arguments → a .declared ≡ b .declared → a ≡ b
-measure-path c w n d = λ i. record { count = c i; width = w i; arguments = n i; declared = d i }
-
-pub and-true : (b : Bool) → b && true ≡ b
-and-true true = refl
-and-true false = refl
-
-pub and-assoc : (a b c : Bool) → a && (b && c) ≡ (a && b) && c
-and-assoc true b c = refl
-and-assoc false b c = refl
 
 -- A part that is tracked to its end, with its measure, is summed up.
 pub settled-track : {A : Type 0} (measure : A → Measure) (s : List ℕ) {p : Parsed A} {e : ℕ} {v : Measure} → Track s (λ a. v ≡ measure a) p e → settled s e v ≡ summary measure s p

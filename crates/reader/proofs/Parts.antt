@@ -1,14 +1,12 @@
 -- The readers that stop, and the chain of each part.
 use Prim.Native.Nat.{ℕ, zero, suc, _+_, _-_, _≤_, _<_}
 use mathlib.Core.Path.{_≡_, refl, _∙_, ap}
-use mathlib.Core.Bool.{true}
 use mathlib.Core.List.{List, [], _∷_}
 use native.Mathlib.Omega.{arith}
 use native.Mathlib.Numerals.{add-one}
 use lib.ListN.{length, drop, length-drop}
 use Rattle.logic.specs.Syntax.{Term, var, app, Terms, nil, cons}
 use Rattle.logic.specs.Terms.{count}
-use Rattle.logic.specs.Each.{eachTerm, eachTerms, termWidth, termsWidth}
 use Rattle.scan.specs.declared.numbers.NumberAt.{NumberAt}
 use Rattle.reader.specs.declared.measures.Measure.{Measure}
 use Rattle.reader.specs.declared.summaries.Summary.{Summary}
@@ -17,7 +15,7 @@ use Rattle.text.specs.Write.{putTerms}
 use Rattle.text.specs.Read.{Parsed, bad, got, strip, oneOf, readNumber, readNext, readItems, readMany, readTerms, readVariable, readApplied, readTerm}
 use Rattle.text.specs.Places.{endOf, readOr}
 use Rattle.scan.specs.Numbers.{numberAt}
-use Rattle.reader.specs.Summary.{empty, joined, counted, summary, settled, termMeasure, termsMeasure, appliedMeasure}
+use Rattle.reader.specs.Summary.{ofTerm, ofTerms, belowBounds, measured, empty, summary, settled, termMeasure, termsMeasure, appliedBounds}
 use Rattle.text.proofs.Gives.{Gives, nothing, gives}
 use Rattle.text.proofs.Number.{number-sound}
 use Rattle.text.proofs.Plain.{_⨾_, close, number-plain, term-plain, terms-plain, put-grows}
@@ -26,7 +24,7 @@ use Rattle.text.proofs.Sound.{term-sound}
 use Rattle.text.proofs.Places.{end-at}
 use Rattle.text.proofs.Chain.{Stops, stops, word-stops, lost, found, onward, lose, hit, first-word, later-word, last-word}
 use Rattle.text.proofs.Rest.{terms-step}
-use Rattle.reader.proofs.Loop.{Listed}
+use Rattle.reader.proofs.Loop.{Folds, Listed}
 use Rattle.reader.proofs.Measuring.{settled-track, ending, measuring, number-end, number-value}
 
 pub number-stops : Stops readNumber
@@ -46,15 +44,15 @@ unfolding readMany readItems
 terms-stops d = stops (many-sound (terms d) (term-sound d)) (λ ts. terms-plain ts ⨾ close) refl
 
 module _ (table s : List ℕ) (at : ℕ) where
-  pub variable-sum : {n : NumberAt} {e : ℕ} → n ≡ numberAt s (readNumber (drop at s)) → e ≡ endOf s (strip (bytes ")") (drop (n .end) s)) → settled s e (record { count = 1; width = n .value + 1; arguments = 0; declared = true }) ≡ summary (termMeasure table) s (readVariable (drop at s))
-  unfolding readVariable termMeasure termWidth eachTerm
+  pub variable-sum : {n : NumberAt} {e : ℕ} → n ≡ numberAt s (readNumber (drop at s)) → e ≡ endOf s (strip (bytes ")") (drop (n .end) s)) → settled s e (measured 1 (belowBounds (n .value + 1))) ≡ summary (termMeasure table) s (readVariable (drop at s))
+  unfolding readVariable ofTerm
   variable-sum {n} h i =
       settled-track (termMeasure table) s (onward s at _ number-stops (number-end h) refl (lose s (word-stops 41 []) i)
       λ v g _ _ w. onward s (n .end) _ (word-stops 41 []) i w (λ l. l)
       λ _ _ _ l w. found (var v) w l (rw (number-value s h g, add-one)))
 
-  pub applied-sum : (d : ℕ) {w : ℕ} {f : NumberAt} {parts : Summary} → strip (bytes "(v ") (drop at s) ≡ bad → w ≡ endOf s (strip (bytes "(f ") (drop at s)) → f ≡ numberAt s (readNumber (drop w s)) → parts ≡ summary (termsMeasure table) s (readTerms (readTerm d) (drop (f .end) s)) → settled s (parts .end) (appliedMeasure table (f .value) (parts .measure)) ≡ summary (termMeasure table) s (readTerm (suc d) (drop at s))
-  unfolding readTerm readApplied termMeasure termsMeasure termWidth eachTerm
+  pub applied-sum : (d : ℕ) {w : ℕ} {f : NumberAt} {parts : Summary} → strip (bytes "(v ") (drop at s) ≡ bad → w ≡ endOf s (strip (bytes "(f ") (drop at s)) → f ≡ numberAt s (readNumber (drop w s)) → parts ≡ summary (termsMeasure table) s (readTerms (readTerm d) (drop (f .end) s)) → settled s (parts .end) (measured 1 (appliedBounds table (f .value) (parts .measure))) ≡ summary (termMeasure table) s (readTerm (suc d) (drop at s))
+  unfolding readTerm readApplied ofTerm
   applied-sum d {w} {f} v h i j =
       settled-track (termMeasure table) s (onward s at _ (word-stops 40 (102 ∷ 32 ∷ [])) h
       (later-word "(v " _ _ (drop at s) v ∙ last-word "(f " _ (drop at s))
@@ -73,7 +71,7 @@ module _ (table s : List ℕ) (at : ℕ) where
   variable-term zero n h l = absurd (n refl)
   variable-term (suc d) n h l = first-word "(v " _ _ (drop at s) (hit s at (word-stops 40 (118 ∷ 32 ∷ [])) h l .1)
 
-  pub applied-term : (d : ℕ) {w : ℕ} {f : NumberAt} {parts : Summary} → (d ≡ 0 → ⊥) → strip (bytes "(v ") (drop at s) ≡ bad → w ≡ endOf s (strip (bytes "(f ") (drop at s)) → f ≡ numberAt s (readNumber (drop w s)) → parts ≡ summary (termsMeasure table) s (readTerms (readTerm (d - 1)) (drop (f .end) s)) → settled s (parts .end) (appliedMeasure table (f .value) (parts .measure)) ≡ summary (termMeasure table) s (readTerm d (drop at s))
+  pub applied-term : (d : ℕ) {w : ℕ} {f : NumberAt} {parts : Summary} → (d ≡ 0 → ⊥) → strip (bytes "(v ") (drop at s) ≡ bad → w ≡ endOf s (strip (bytes "(f ") (drop at s)) → f ≡ numberAt s (readNumber (drop w s)) → parts ≡ summary (termsMeasure table) s (readTerms (readTerm (d - 1)) (drop (f .end) s)) → settled s (parts .end) (measured 1 (appliedBounds table (f .value) (parts .measure))) ≡ summary (termMeasure table) s (readTerm d (drop at s))
   applied-term d n v i j k = applied-sum (d - 1) v i j k ∙ ap (λ d. summary (termMeasure table) s (readTerm d (drop at s))) (omega arith)
 
   -- No word of a term stands there.
@@ -84,19 +82,15 @@ module _ (table s : List ℕ) (at : ℕ) where
 
   -- No parts: the bracket closes right away.
   pub no-parts : (d : ℕ) {e : ℕ} → e ≡ endOf s (strip (bytes ")") (drop at s)) → e ≤ length s → record { end = e; measure = empty } ≡ summary (termsMeasure table) s (readTerms (readTerm d) (drop at s))
-  unfolding readNext termsMeasure count eachTerms termsWidth
+  unfolding readNext ofTerms count
   no-parts d h l =
       let q : readTerms (readTerm d) (drop at s) ≡ got nil _ = terms-step d (drop at s) ∙ first-word ")" _ _ (drop at s) (hit s at (word-stops 41 []) h l .1) in
       rw (← end-at s l q, q)
 
 -- Terms up to the closing bracket.
-pub terms-none : (table : List ℕ) → termsMeasure table nil ≡ empty
-unfolding termsMeasure count eachTerms termsWidth
-terms-none table = refl
-
-pub terms-more : (table : List ℕ) (t : Term) (ts : Terms) → termsMeasure table (cons t ts) ≡ counted (suc (termsMeasure table ts .count)) (joined (termMeasure table t) (termsMeasure table ts))
-unfolding termMeasure termsMeasure joined count eachTerms termsWidth
-terms-more table t ts = refl
+pub terms-fold : (table : List ℕ) → Folds nil cons (termMeasure table) (termsMeasure table)
+unfolding ofTerms count
+terms-fold table = (refl, λ t ts. refl)
 
 abbrev pub term-list : ℕ → List ℕ → Listed Term Terms
 term-list d table = record {
@@ -107,8 +101,7 @@ term-list d table = record {
   list = termsMeasure table;
   step = terms-step d;
   stops = term-stops d;
-  of-none = terms-none table;
-  of-more = terms-more table;
+  folds = terms-fold table;
 }
 
 -- A list has no more terms than the text has bytes.
@@ -118,7 +111,6 @@ terms-length nil rest = omega arith
 terms-length (cons t ts) rest = omega (arith, terms-length ts rest, put-grows (term-plain t) (putTerms ts rest))
 
 pub few-terms : (d : ℕ) (table s : List ℕ) (at : ℕ) {r : Summary} → r ≡ summary (termsMeasure table) s (readTerms (readTerm d) (drop at s)) → r .measure .count ≤ length s
-unfolding termsMeasure
 few-terms d table s at h = rw h (go (many-sound (terms d) (term-sound d) .at (drop at s)))
   where
     go : {p : Parsed Terms} {F : Terms → Type 0} → Gives (λ ts rest. (drop at s ≡ putTerms ts (41 ∷ rest)) × F ts) p → readOr empty (termsMeasure table) p .count ≤ length s

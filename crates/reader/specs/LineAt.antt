@@ -1,4 +1,4 @@
--- Nothing here is to be believed: it mirrors code on bytes; `line-seen` (crates/reader/proofs/Held) says what it gives of a line.
+-- Nothing here is to be believed: it mirrors code on bytes; `line-seen` (crates/state/proofs/Held) says what it gives of a line.
 -- A line as the reader gives it: what it is, its numbers, and of its clause and lists where they begin and what they measure.
 use Prim.Native.Nat.{ℕ, _-_}
 use mathlib.Core.List.{List, []}

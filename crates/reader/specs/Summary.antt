@@ -1,72 +1,108 @@
--- Nothing here is to be believed: it mirrors code on bytes; `line-seen` (crates/reader/proofs/Held) says what it gives of a line.
+-- Nothing here is to be believed: it mirrors code on bytes; `line-seen` (crates/state/proofs/Held) says what it gives of a line.
 -- What reading a part in one pass tells of it: its end, and a measure of the value read.
-use Prim.Native.Nat.{ℕ, zero, max}
-use mathlib.Core.Bool.{true, cond, _&&_}
+use Prim.Native.Nat.{ℕ, suc, max}
+use mathlib.Core.Bool.{Bool, true, cond, _&&_}
 use lib.Dec.{leb}
 use mathlib.Core.List.{List, [], _∷_}
 use lib.ListN.{length}
-use Rattle.logic.specs.Syntax.{Term, Terms, Result, Atom, link, obj, method, Literal, lit, Clause}
-use Rattle.logic.specs.Terms.{count, resultTerms, termsOf}
-use Rattle.logic.specs.Each.{any, declares, eachTerm, eachTerms, eachAtom, eachClause, termWidth, termsWidth, width}
+use Rattle.logic.specs.Syntax.{Term, var, app, Terms, nil, cons, Result, Atom, link, obj, method, Literal, lit, Clause}
+use Rattle.logic.specs.Terms.{count, resultTerms}
+use Rattle.logic.specs.Each.{declares}
+use Rattle.reader.specs.declared.measures.Bounds.{Bounds}
 use Rattle.reader.specs.declared.measures.Measure.{Measure}
 use Rattle.reader.specs.declared.summaries.Summary.{Summary}
 use Rattle.text.specs.Read.{Parsed}
 use Rattle.text.specs.Places.{endOf, readOr}
 
--- The measure of no terms.
-abbrev pub empty : Measure
-empty = record { count = 0; width = 0; arguments = 0; declared = true }
+-- What is taken of the parts of a text: of none, of two from left to right, of variable n, of symbol f applied to n terms, and of a method
+-- with n arguments.
+pub record Taken (M : Type 0) : Type 0 where
+  pub nothing : M
+  pub join : M → M → M
+  pub variable : ℕ → M
+  pub symbol : ℕ → ℕ → M
+  pub arity : ℕ → M
 
--- Two parts together, counted as the first; a part counted anew.
-unfoldable pub joined : Measure → Measure → Measure
-joined a b = record {
-  count = a .count;
-  width = max (a .width) (b .width);
-  arguments = max (a .arguments) (b .arguments);
-  declared = a .declared && b .declared;
+-- So of a term, an atom and a clause, in the order of the text.
+unfoldable mutual
+  pub ofTerm : {M : Type 0} → Taken M → Term → M
+  ofTerm T (var n) = T .variable n
+  ofTerm T (app f ts) = T .join (T .symbol f (count ts)) (ofTerms T ts)
+
+  pub ofTerms : {M : Type 0} → Taken M → Terms → M
+  ofTerms T nil = T .nothing
+  ofTerms T (cons t ts) = T .join (ofTerm T t) (ofTerms T ts)
+
+unfoldable pub ofAtom : {M : Type 0} → Taken M → Atom → M
+ofAtom T (link l t u) = T .join (ofTerm T t) (ofTerm T u)
+ofAtom T (obj t) = ofTerm T t
+ofAtom T (method a o m ts r) =
+    T .join (ofTerm T o) (T .join (T .arity (count ts)) (T .join (ofTerm T m) (T .join (ofTerms T ts) (ofTerms T (resultTerms r)))))
+
+unfoldable pub ofLiteral : {M : Type 0} → Taken M → Literal → M
+ofLiteral T (lit g x) = ofAtom T x
+
+unfoldable pub ofClause : {M : Type 0} → Taken M → Clause → M
+ofClause T [] = T .nothing
+ofClause T (l ∷ c) = T .join (ofLiteral T l) (ofClause T c)
+
+-- The bounds that the reader takes: their fields; of no part, of the variable next below w, of a symbol that is known or not, of a method with
+-- n arguments; of two parts from left to right; and all of these over a table of argument counts.
+abbrev pub boundsOf : ℕ → ℕ → Bool → Bounds
+boundsOf w n d = record { width = w; arguments = n; declared = d }
+
+abbrev pub noBounds : Bounds
+noBounds = boundsOf 0 0 true
+
+abbrev pub belowBounds : ℕ → Bounds
+belowBounds w = boundsOf w 0 true
+
+abbrev pub symbolBounds : Bool → Bounds
+symbolBounds known = boundsOf 0 0 known
+
+abbrev pub arityBounds : ℕ → Bounds
+arityBounds n = boundsOf 0 n true
+
+unfoldable pub joined : Bounds → Bounds → Bounds
+joined a b = boundsOf (max (a .width) (b .width)) (max (a .arguments) (b .arguments)) (a .declared && b .declared)
+
+abbrev pub bounds : List ℕ → Taken Bounds
+bounds table = record {
+  nothing = noBounds;
+  join = joined;
+  variable = λ n. belowBounds (suc n);
+  symbol = λ f n. symbolBounds (declares table f n);
+  arity = arityBounds;
 }
 
-abbrev pub counted : ℕ → Measure → Measure
-counted n m = record { count = n; width = m .width; arguments = m .arguments; declared = m .declared }
+-- How many parts, and their bounds; no parts.
+abbrev pub measured : ℕ → Bounds → Measure
+measured n b = record { count = n; bounds = b }
 
--- A term: its highest variable plus 1, and whether its applied symbols are declared. It counts as one.
-unfoldable pub termMeasure : List ℕ → Term → Measure
-termMeasure table t = record { count = 1; width = termWidth t; arguments = 0; declared = eachTerm any (declares table) t }
+abbrev pub empty : Measure
+empty = measured 0 noBounds
 
-unfoldable pub termsMeasure : List ℕ → Terms → Measure
-termsMeasure table ts = record { count = count ts; width = termsWidth ts; arguments = 0; declared = eachTerms any (declares table) ts }
+abbrev pub termMeasure : List ℕ → Term → Measure
+termMeasure table t = measured 1 (ofTerm (bounds table) t)
 
--- Symbol f applied to terms of this measure.
-abbrev pub appliedMeasure : List ℕ → ℕ → Measure → Measure
-appliedMeasure table f m = record { count = 1; width = m .width; arguments = 0; declared = declares table f (m .count) && m .declared }
+abbrev pub termsMeasure : List ℕ → Terms → Measure
+termsMeasure table ts = measured (count ts) (ofTerms (bounds table) ts)
 
-unfoldable pub resultMeasure : List ℕ → Result → Measure
+abbrev pub resultMeasure : List ℕ → Result → Measure
 resultMeasure table r = termsMeasure table (resultTerms r)
 
--- The number of method arguments of an atom, and the largest of a clause.
-unfoldable pub argumentCount : Atom → ℕ
-argumentCount (link l t u) = 0
-argumentCount (obj t) = 0
-argumentCount (method a o m ts r) = count ts
+abbrev pub atomMeasure : List ℕ → Atom → Measure
+atomMeasure table x = measured 1 (ofAtom (bounds table) x)
 
-unfoldable pub mostArguments : Clause → ℕ
-mostArguments [] = zero
-mostArguments (lit g x ∷ c) = max (argumentCount x) (mostArguments c)
+abbrev pub literalMeasure : List ℕ → Literal → Measure
+literalMeasure table l = measured 1 (ofLiteral (bounds table) l)
 
-unfoldable pub atomMeasure : List ℕ → Atom → Measure
-atomMeasure table x =
-    record { count = 1; width = termsWidth (termsOf x); arguments = argumentCount x; declared = eachAtom any (declares table) x }
+abbrev pub clauseMeasure : List ℕ → Clause → Measure
+clauseMeasure table c = measured (length c) (ofClause (bounds table) c)
 
--- An atom whose terms together have this measure.
-abbrev pub atomOf : Measure → ℕ → Measure
-atomOf m n = record { count = 1; width = m .width; arguments = n; declared = m .declared }
-
-unfoldable pub literalMeasure : List ℕ → Literal → Measure
-literalMeasure table (lit g x) = atomMeasure table x
-
-unfoldable pub clauseMeasure : List ℕ → Clause → Measure
-clauseMeasure table c =
-    record { count = length c; width = width c; arguments = mostArguments c; declared = eachClause any (declares table) c }
+-- Symbol f applied to terms of this measure.
+abbrev pub appliedBounds : List ℕ → ℕ → Measure → Bounds
+appliedBounds table f m = joined (symbolBounds (declares table f (m .count))) (m .bounds)
 
 -- The end of what was read, and its measure.
 abbrev pub summary : {A : Type 0} → (A → Measure) → List ℕ → Parsed A → Summary

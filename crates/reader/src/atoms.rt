@@ -1,8 +1,8 @@
 // Atoms and literals.
-use crate::measures::Measure;
+use crate::measures::arity;
+use crate::measures::counted;
 use crate::measures::join;
 use crate::measures::none;
-use crate::measures::recount;
 use crate::summaries::Summary;
 use crate::summaries::settle;
 use crate::terms::term;
@@ -17,7 +17,7 @@ ghost use lib.ListN.{drop};
 ghost use Rattle.logic.specs.declared.Link.{Link};
 ghost use Rattle.logic.specs.Syntax.{mayBeNone};
 ghost use Rattle.text.specs.Read.{readArguments, readResult, readLink, readObject, readMethod, readKind, readAtom, readLiteral};
-ghost use Rattle.reader.specs.Summary.{termsMeasure, resultMeasure, atomMeasure, literalMeasure, atomOf, summary};
+ghost use Rattle.reader.specs.Summary.{termsMeasure, resultMeasure, atomMeasure, literalMeasure, summary};
 
 // The arguments in brackets, perhaps none.
 pub fn arguments(s: &[u8], at: usize, depth: usize, table: &[u8]) -> Summary
@@ -31,7 +31,11 @@ pub fn arguments(s: &[u8], at: usize, depth: usize, table: &[u8]) -> Summary
     let t = term(s, o, depth, table);
     let ts = terms(s, t.end, depth, table);
     let m = ts.measure;
-    settle(s, ts.end, recount(m.count + 1, join(t.measure, m)))
+    settle(
+        s,
+        ts.end,
+        counted(m.count + 1, join(t.measure.bounds, m.bounds)),
+    )
 }
 
 // Whether the result may be the word none.
@@ -63,18 +67,6 @@ pub fn result(s: &[u8], at: usize, a: Arrow, depth: usize, table: &[u8]) -> Summ
     }
 }
 
-// The measure of an atom, from that of its terms together.
-fn atom_of(m: Measure, arguments: usize) -> Measure
-    ensures { λ r. ⌜ r ≡ atomOf m arguments ⌝ }
-{
-    Measure {
-        count: 1,
-        width: m.width,
-        arguments,
-        declared: m.declared,
-    }
-}
-
 // T U) after the word eq, mem or sub.
 fn linked(s: &[u8], at: usize, depth: usize, table: &[u8]) -> Summary
     ensures { λ r.
@@ -84,7 +76,7 @@ fn linked(s: &[u8], at: usize, depth: usize, table: &[u8]) -> Summary
     let t = term(s, word(s, at, b" "), depth, table);
     let u = term(s, word(s, t.end, b" "), depth, table);
     let e = word(s, u.end, b")");
-    settle(s, e, atom_of(join(t.measure, u.measure), 0))
+    settle(s, e, counted(1, join(t.measure.bounds, u.measure.bounds)))
 }
 
 // T) after the word obj.
@@ -93,7 +85,7 @@ fn object(s: &[u8], at: usize, depth: usize, table: &[u8]) -> Summary
 {
     let t = term(s, word(s, at, b" "), depth, table);
     let e = word(s, t.end, b")");
-    settle(s, e, atom_of(t.measure, 0))
+    settle(s, e, t.measure)
 }
 
 // O M (T ...) R) after the arrow's word.
@@ -106,8 +98,9 @@ fn method(s: &[u8], at: usize, a: Arrow, depth: usize, table: &[u8]) -> Summary
     let r = result(s, word(s, ts.end, b" "), a, depth, table);
     let e = word(s, r.end, b")");
     let given = ts.measure;
-    let all = join(join(o.measure, m.measure), join(given, r.measure));
-    settle(s, e, atom_of(all, given.count))
+    let terms = join(m.measure.bounds, join(given.bounds, r.measure.bounds));
+    let part = join(arity(given.count), terms);
+    settle(s, e, counted(1, join(o.measure.bounds, part)))
 }
 
 // The word of an atom decides what follows it.

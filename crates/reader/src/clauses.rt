@@ -1,8 +1,8 @@
 // Clauses, and lists of terms after the word let.
 use crate::atoms::literal;
+use crate::measures::counted;
 use crate::measures::join;
-use crate::measures::none;
-use crate::measures::recount;
+use crate::measures::nothing;
 use crate::summaries::Summary;
 use crate::summaries::settle;
 use crate::terms::terms;
@@ -20,21 +20,21 @@ fn literals(s: &[u8], at: usize, depth: usize, table: &[u8]) -> Summary
         (readMany [] _∷_ (readLiteral depth) (drop at (now (s .entry)))) ⌝ }
 {
     let mut i = at;
-    let mut m = none();
+    let mut m = nothing();
     let mut count = 0;
     let mut next = word(s, at, b" ");
     while next <= s.len() {
         let l = literal(s, next, depth, table);
         i = l.end;
-        m = join(m, l.measure);
+        m = join(m, l.measure.bounds);
         count += 1;
         next = word(s, i, b" ");
     }
     let e = word(s, i, b")");
-    settle(s, e, recount(count, m))
+    settle(s, e, counted(count, m))
 }
 
-// A clause: its literals, width, most method arguments, and whether its symbols are declared.
+// A clause: how many literals, and their bounds.
 pub fn clause(s: &[u8], at: usize, depth: usize, table: &[u8]) -> Summary
     ensures { λ r. ⌜ r ≡ summary (clauseMeasure (now (table .entry))) (now (s .entry)) (readClause depth (drop at (now (s .entry)))) ⌝ }
 {

@@ -1,21 +1,23 @@
 // Terms, and lists of terms up to a closing bracket.
+use crate::measures::Bounds;
 use crate::measures::Measure;
+use crate::measures::below;
+use crate::measures::counted;
 use crate::measures::join;
 use crate::measures::none;
-use crate::measures::recount;
+use crate::measures::nothing;
+use crate::measures::symbol;
 use crate::summaries::Summary;
 use crate::summaries::settle;
-use choices::both;
 use scan::numbers::number;
 use scan::words::HEAD;
 use scan::words::closes;
 use scan::words::letter;
 ghost use mathlib.Core.Path.{_≡_};
-ghost use mathlib.Core.Bool.{_&&_};
 ghost use lib.ListN.{drop};
 ghost use Rattle.logic.specs.Each.{declares};
 ghost use Rattle.text.specs.Read.{readVariable, readApplied, readTerm, readTerms};
-ghost use Rattle.reader.specs.Summary.{termMeasure, termsMeasure, appliedMeasure, summary};
+ghost use Rattle.reader.specs.Summary.{termMeasure, termsMeasure, appliedBounds, summary};
 
 // Whether symbol f takes n terms by the table of argument counts.
 fn declared(table: &[u8], f: usize, n: usize) -> bool
@@ -36,26 +38,15 @@ fn variable(s: &[u8], at: usize, table: &[u8]) -> Summary
     if !closes(s, end) {
         return settle(s, s.len() + 1, none());
     }
-    let m = Measure {
-        count: 1,
-        width: n.value + 1,
-        arguments: 0,
-        declared: true,
-    };
-    settle(s, end + 1, m)
+    settle(s, end + 1, counted(1, below(n.value + 1)))
 }
 
 // Symbol f applied to the terms that are summed up in `parts`.
-fn applied(f: usize, parts: Measure, table: &[u8]) -> Measure
-    ensures { λ r. ⌜ r ≡ appliedMeasure (now (table .entry)) f parts ⌝ }
+fn applied(f: usize, parts: Measure, table: &[u8]) -> Bounds
+    ensures { λ r. ⌜ r ≡ appliedBounds (now (table .entry)) f parts ⌝ }
 {
     let known = declared(table, f, parts.count);
-    Measure {
-        count: 1,
-        width: parts.width,
-        arguments: 0,
-        declared: both(known, parts.declared),
-    }
+    join(symbol(known), parts.bounds)
 }
 
 // Terms, each after one space, up to the closing bracket.
@@ -66,14 +57,14 @@ pub fn terms(s: &[u8], at: usize, depth: usize, table: &[u8]) -> Summary
 {
     let n = s.len();
     let mut i = at;
-    let mut m = none();
+    let mut m = nothing();
     let mut count = 0;
     while i < n {
         if s[i] != b' ' {
             if s[i] != b')' {
                 return settle(s, n + 1, none());
             }
-            return settle(s, i + 1, recount(count, m));
+            return settle(s, i + 1, counted(count, m));
         }
         if depth == 0 {
             return settle(s, n + 1, none());
@@ -97,7 +88,7 @@ pub fn terms(s: &[u8], at: usize, depth: usize, table: &[u8]) -> Summary
             }
             let t = variable(s, next + HEAD, table);
             i = t.end;
-            m = join(m, t.measure);
+            m = join(m, t.measure.bounds);
         }
         count += 1;
     }
@@ -116,10 +107,14 @@ pub fn term(s: &[u8], at: usize, depth: usize, table: &[u8]) -> Summary
         let f = number(s, at + HEAD);
         let end = f.end;
         if closes(s, end) {
-            return settle(s, end + 1, applied(f.value, none(), table));
+            return settle(s, end + 1, counted(1, applied(f.value, none(), table)));
         }
         let parts = terms(s, end, depth - 1, table);
-        return settle(s, parts.end, applied(f.value, parts.measure, table));
+        return settle(
+            s,
+            parts.end,
+            counted(1, applied(f.value, parts.measure, table)),
+        );
     }
     if b != b'v' {
         return settle(s, s.len() + 1, none());

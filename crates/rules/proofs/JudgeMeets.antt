@@ -28,7 +28,6 @@ use Rattle.text.specs.Write.{word, putLet, putTerms}
 use Rattle.text.specs.Form.{formedNumber, numbered, numbereds, formedTerms, formedStep, formedLine, formedClause, depthOfs, form, maxNumber}
 use Rattle.text.specs.Read.{readLine}
 use Rattle.reader.specs.LineAt.{fromFirst, fromSecond, fromClause, placeOf, stepOf}
-use Rattle.reader.specs.Summary.{termsMeasure}
 use Rattle.text.proofs.Deep.{formedSymbol, each-numbered, entries-over, formed-over}
 use Rattle.text.proofs.Heads.{strip-same}
 use Rattle.reader.proofs.LineParts.{first-place, second-place, claim-place}
@@ -235,6 +234,6 @@ module _ (depth : ℕ) where
 
   -- V22, of the call: the answer is that of the definitions.
   pub judge-meets : (own : ℕ) (p : List ℕ) (z : Size) (q : List ℕ) (z′ : Size) (line : List ℕ) (l : StepAt) → Judges depth own p z q z′ line l (stepAt depth own p z q z′ line l)
-  unfolding Judges stepAt stepOf termsMeasure judge parentNumbers parentsBelow
+  unfolding Judges stepAt stepOf judge parentNumbers parentsBelow
   judge-meets own p z q z′ line l cs s table o f g r e short short′ =
       rw (r, o) (settled-same (parentsBelow cs s) (numbers-same line s e short short′ cs p q z z′ f g) (rest-same line s e short short′ cs p q z z′ f g))

@@ -1,7 +1,7 @@
 -- The state that the code holds represents the state of the definitions, line after line.
 use Prim.Native.Nat.{ℕ, _+_, _-_, _≤_, _<_}
 use mathlib.Core.Path.{_≡_, refl, sym, _∙_, ap}
-use mathlib.Core.Bool.{Bool, true, false, _&&_}
+use mathlib.Core.Bool.{_&&_}
 use mathlib.Core.List.{List, [], _∷_, _++_, map, map-append, append-assoc, append-nil}
 use native.Mathlib.Omega.{arith}
 use native.Mathlib.Decide.{ℕ-discrete}
@@ -12,7 +12,7 @@ use lib.ListN.{length, getD, drop, set, length-append, length-set, length-drop, 
 use lib.Seq.{take-suc-set, getD-set-same, getD-set-other, getD-append-seam}
 use Rattle.logic.specs.Syntax.{Clause, Step, Line, input, by}
 use Rattle.logic.specs.Syntax as syntax
-use Rattle.logic.specs.Each.{any, declares, eachTerms, eachClause, width}
+use Rattle.logic.specs.Each.{width}
 use Rattle.logic.proofs.Both.{right}
 use Rattle.state.specs.declared.HeldState as code
 use Rattle.state.specs.declared.Added.{Added}
@@ -22,14 +22,15 @@ use Rattle.text.specs.Read.{readLine}
 use Rattle.text.specs.Figures.{office, maxSymbols, maxParts}
 use Rattle.state.specs.State.{State, fresh, claimOf, clauses, advance, isEmpty, ordered, hasConstant, constantReady, clauseFits, listFits, withinLimits, symbolsDeclared, after}
 use Rattle.state.specs.Failure.{lineFailure, readFailure}
-use Rattle.reader.specs.Summary.{joined, termsMeasure, clauseMeasure}
+use Rattle.reader.specs.Summary.{ofClause, joined, bounds}
 use Rattle.reader.specs.LineAt.{fromClause, placeOf, stepOf, lineOf}
-use Rattle.state.specs.ReadLine.{freshState, heldTable, clauseFailure, stepMeasure, stepFailure, failureOf, seenAt, placed, byteOf, counted, clauseAdded, addedBy, symbolHeld, clauseHeld, withAdded}
+use Rattle.state.specs.ReadLine.{freshState, heldTable, clauseFailure, stepBounds, stepFailure, failureOf, seenAt, placed, byteOf, counted, clauseAdded, addedBy, symbolHeld, clauseHeld, withAdded}
 use Rattle.state.specs.Represents.{Stands, Represents, Sized, Begins, Sees, LineStands, Adds}
 use Rattle.text.proofs.Plain.{clause-plain, in-front}
 use Rattle.text.proofs.Sound.{line-sound}
 use Rattle.reader.proofs.LineParts.{input-place, claim-place}
-use Rattle.state.proofs.Limits.{clause-limits, input-limits, step-limits}
+use Rattle.reader.proofs.Bounds.{tell-terms, tell-clause, width-told, declared-told}
+use Rattle.state.proofs.Limits.{and-comm, input-limits, step-limits, clause-small}
 use Rattle.text.proofs.Tests.{T-and}
 use Rattle.reader.specs.declared.forms.LineAt.{LineAt}
 use Rattle.state.proofs.StateCode.{zero-or}
@@ -58,32 +59,20 @@ unfolding isEmpty
 no-steps is [] = eq-eqb _ _ (ap length (append-nil is))
 no-steps is (s ∷ ss) = ne-eqb (length (is ++ claimOf s ∷ map claimOf ss)) (length is) (λ e. omega (arith, length-append is (claimOf s ∷ map claimOf ss)))
 
-and-comm : (a b : Bool) → a && b ≡ b && a
-and-comm true true = refl
-and-comm true false = refl
-and-comm false true = refl
-and-comm false false = refl
-
-rotate : (a b c : Bool) → a && (b && c) ≡ b && (c && a)
-rotate true true true = refl
-rotate true true false = refl
-rotate true false c = refl
-rotate false true true = refl
-rotate false true false = refl
-rotate false false c = refl
-
 module _ {depth : ℕ} {part : ℕ → List ℕ} {held : code.HeldState} {st : State} (R : Represents depth part held st) (bytes : List ℕ) where
   held-failure : (r : Reading) →
       failureOf (held .symbols) (held .clauses) (held .inputs) (hasConstant (st .symbols)) (lineOf (st .symbols) bytes r) ≡ readFailure st r
-  unfolding failureOf stepFailure stepMeasure clauseFailure readFailure lineFailure lineOf ordered constantReady withinLimits symbolsDeclared clauses stepOf joined clauseMeasure termsMeasure
+  unfolding failureOf stepFailure stepBounds clauseFailure readFailure lineFailure lineOf ordered constantReady withinLimits symbolsDeclared clauses stepOf joined
   held-failure noForm = refl
   held-failure (form (syntax.sym k)) =
       rw (R .count, R .symbols, no-clauses (st .inputs) (st .steps), and-comm (ltb (length (st .symbols)) maxSymbols) (leb k maxParts))
-  held-failure (form (input c)) = rw (R .count, R .inputs, no-steps (st .inputs) (st .steps), input-limits (st .symbols) c)
+  held-failure (form (input c)) = rw (R .count, R .inputs, no-steps (st .inputs) (st .steps), input-limits (st .symbols) c, tell-clause (declared-told (st .symbols)) c)
   held-failure (form (by s)) =
       rw (
         step-limits (st .symbols) bytes s,
-        rotate (eachClause any (declares (st .symbols)) (s .claim)) (eachTerms any (declares (st .symbols)) (s .first)) (eachTerms any (declares (st .symbols)) (s .second)),
+        tell-terms (declared-told (st .symbols)) (s .first),
+        tell-terms (declared-told (st .symbols)) (s .second),
+        tell-clause (declared-told (st .symbols)) (s .claim),
       )
 
 pub line-seen : (depth : ℕ) (counts : List ℕ) (symbols clauses inputs : ℕ) (bytes : List ℕ) →
@@ -245,15 +234,15 @@ module _ {depth start : ℕ} {part : ℕ → List ℕ} {bytes : List ℕ} {held 
   clause-after : (c : Clause) (st' : State) {inputs : ℕ} → drop (placeOf bytes (fromClause c)) bytes ≡ fromClause c → T (formedClause depth c) × T (clauseFits c) → clauses st' ≡ clauses st ++ (c ∷ []) →
       st' .symbols ≡ st .symbols → inputs ≡ length (st' .inputs) →
       Represents depth part (clauseHeld held (placed start (placeOf bytes (fromClause c))) inputs) st'
-      × ((ls ws : List ℕ) → Sized st ls ws → Sized st' (set ls (held .clauses) (byteOf (length c))) (set ws (held .clauses) (byteOf (width c))))
+      × ((ls ws : List ℕ) → Sized st ls ws → Sized st' (set ls (held .clauses) (byteOf (length c))) (set ws (held .clauses) (byteOf (ofClause (bounds (st .symbols)) c .width))))
   clause-after c st' place fits e t i =
-      let w = clause-limits c .0 (fits .1) in (
+      let w = clause-small c (fits .1) in (
         clause-added st st' c e (R .count) (P .room) R refl (clause-stands P (placeOf bytes (fromClause c)) c place (fits .0) (fits .1)) t i,
-        λ ls ws S. sized-more st st' c e (R .count) (P .room) (small-byte (w .0)) (small-byte (w .2)) S,
+        λ ls ws S. sized-more st st' c e (R .count) (P .room) (small-byte (w .0)) (ap byteOf (tell-clause (width-told (st .symbols)) c) ∙ small-byte (w .1)) S,
       )
 
   state-after : (r : Reading) → readLine depth bytes ≡ r → After r
-  unfolding after lineOf stepOf withAdded addedBy clauseAdded advance readFailure clauseMeasure clauses
+  unfolding after lineOf stepOf withAdded addedBy clauseAdded advance readFailure clauses
   state-after noForm e = absurd (omega (arith, sym (ap (readFailure st) e) ∙ passes))
   state-after (form (syntax.sym k)) e =
       let room = sym-fits k e in (

@@ -5,7 +5,7 @@ use mathlib.Core.Bool.{Bool, true, false, cond, _&&_}
 use mathlib.Core.List.{List}
 use lib.Dec.{leb, ltb, eqb}
 use lib.ListN.{take, set, replicate}
-use Rattle.reader.specs.declared.measures.Measure.{Measure}
+use Rattle.reader.specs.declared.measures.Bounds.{Bounds}
 use Rattle.reader.specs.declared.forms.ItemAt.{ItemAt}
 use Rattle.reader.specs.declared.forms.StepAt.{StepAt}
 use Rattle.reader.specs.declared.forms.LineAt.{LineAt}
@@ -34,29 +34,29 @@ unfoldable pub heldTable : HeldState → List ℕ
 heldTable st = take (st .symbols) (st .counts)
 
 -- The limits of a line with a clause, by the most literals or entries of a list; as many variables as each of these.
-unfoldable pub lineFits : ℕ → Measure → Bool
-lineFits most m = leb (max most (m .width)) maxLiterals && leb (m .arguments) maxArguments
+unfoldable pub lineFits : ℕ → Bounds → Bool
+lineFits most b = leb (max most (b .width)) maxLiterals && leb (b .arguments) maxArguments
 
 -- Checks 4 to 6 of a line with a clause.
-unfoldable pub clauseFailure : Bool → ℕ → Measure → ℕ
-clauseFailure ready most m = cond ready (cond (lineFits most m) (cond (m .declared) 0 6) 5) 4
+unfoldable pub clauseFailure : Bool → ℕ → Bounds → ℕ
+clauseFailure ready most b = cond ready (cond (lineFits most b) (cond (b .declared) 0 6) 5) 4
 
--- Of a step: the most literals or entries, and the measure of its claim and its lists.
+-- Of a step: the most entries or literals, and the bounds of its lists and its claim.
 unfoldable pub stepMost : StepAt → ℕ
-stepMost s = max (s .claim .measure .count) (max (s .first .measure .count) (s .second .measure .count))
+stepMost s = max (s .first .measure .count) (max (s .second .measure .count) (s .claim .measure .count))
 
-unfoldable pub stepMeasure : StepAt → Measure
-stepMeasure s = joined (s .claim .measure) (joined (s .first .measure) (s .second .measure))
+unfoldable pub stepBounds : StepAt → Bounds
+stepBounds s = joined (s .first .measure .bounds) (joined (s .second .measure .bounds) (s .claim .measure .bounds))
 
 unfoldable pub stepFailure : Bool → StepAt → ℕ
-stepFailure ready s = clauseFailure ready (stepMost s) (stepMeasure s)
+stepFailure ready s = clauseFailure ready (stepMost s) (stepBounds s)
 
 -- The number of the first of the checks 2 to 6 that fails, or 0.
 unfoldable pub failureOf : ℕ → ℕ → ℕ → Bool → LineAt → ℕ
 failureOf symbols clauses inputs ready NoForm = 2
 failureOf symbols clauses inputs ready (Sym k) = cond (eqb clauses 0) (cond (ltb symbols maxSymbols && leb k maxParts) 0 5) 3
 failureOf symbols clauses inputs ready (Input c) =
-    cond (eqb clauses inputs) (clauseFailure ready (c .measure .count) (c .measure)) 3
+    cond (eqb clauses inputs) (clauseFailure ready (c .measure .count) (c .measure .bounds)) 3
 failureOf symbols clauses inputs ready (By s) = stepFailure ready s
 
 -- Checks 2 to 6 of a line, by what a state holds.
@@ -83,7 +83,7 @@ clauseAdded start inputs c = record {
   k = 0;
   start = placed start (c .start);
   literals = byteOf (c .measure .count);
-  width = byteOf (c .measure .width);
+  width = byteOf (c .measure .bounds .width);
   inputs = inputs;
 }
 

@@ -4,7 +4,7 @@ use reader::forms::ItemAt;
 use reader::forms::LineAt;
 use reader::forms::StepAt;
 use reader::forms::line;
-use reader::measures::Measure;
+use reader::measures::Bounds;
 use reader::measures::join;
 use text::BYTES;
 use text::Figures;
@@ -118,34 +118,34 @@ pub fn constant_held(counts: &[u8], symbols: usize) -> bool
     has_constant(table(counts, symbols))
 }
 
-// Checks 4 to 6 of a line with a clause, by the most literals or entries of a list and by the measure of all of it.
-fn clause_failure(ready: bool, most: usize, m: Measure) -> usize
-    ensures { λ r. ⌜ r ≡ clauseFailure ready most m ⌝ }
+// Checks 4 to 6 of a line with a clause, by the most literals or entries of a list and by the bounds of all of it.
+fn clause_failure(ready: bool, most: usize, b: Bounds) -> usize
+    ensures { λ r. ⌜ r ≡ clauseFailure ready most b ⌝ }
 {
     if !ready {
         return CONSTANT;
     }
-    if larger(most, m.width) > ITEMS {
+    if larger(most, b.width) > ITEMS {
         return LIMIT;
     }
-    if m.arguments > ARGUMENTS {
+    if b.arguments > ARGUMENTS {
         return LIMIT;
     }
-    if m.declared { 0 } else { SYMBOL }
+    if b.declared { 0 } else { SYMBOL }
 }
 
-// Checks 4 to 6 of a step: its claim and its lists.
+// Checks 4 to 6 of a step: its lists and its claim, in the order of the text.
 fn step_failure(ready: bool, s: StepAt) -> usize
     ensures { λ r. ⌜ r ≡ stepFailure ready s ⌝ }
 {
-    let claim = s.claim;
     let first = s.first;
     let second = s.second;
-    let m = claim.measure;
-    let firsts = first.measure;
-    let seconds = second.measure;
-    let most = larger(m.count, larger(firsts.count, seconds.count));
-    clause_failure(ready, most, join(m, join(firsts, seconds)))
+    let claim = s.claim;
+    let f = first.measure;
+    let g = second.measure;
+    let c = claim.measure;
+    let most = larger(f.count, larger(g.count, c.count));
+    clause_failure(ready, most, join(f.bounds, join(g.bounds, c.bounds)))
 }
 
 // Checks 2 to 6.
@@ -168,7 +168,7 @@ fn failure(symbols: usize, clauses: usize, inputs: usize, ready: bool, l: LineAt
                 return ORDER;
             }
             let m = c.measure;
-            clause_failure(ready, m.count, m)
+            clause_failure(ready, m.count, m.bounds)
         }
         LineAt::By(s) => step_failure(ready, s),
     }
@@ -234,7 +234,7 @@ fn clause_added(start: usize, inputs: usize, c: ItemAt) -> Added
         k: 0,
         start: place(start, c.start),
         literals: byte(m.count),
-        width: byte(m.width),
+        width: byte(m.bounds.width),
         inputs,
     }
 }

@@ -23,18 +23,6 @@ unfolding addedBy
 returns-4 c = and-so (Adds _ _ _) (line-adds _ _ _) (rw (c .before .before .before .l3 .given .1, c .clause-added2 .ensures))
 
 pub adds-spec : {M : Type 1} → statement M
-adds-spec =
-    tie.close
-    (tie.spec
-    (λ c. search needs)
-    (λ c. search needs)
-    (λ c κs. tt)
-    (λ c. search needs)
-    (λ c κs. tt)
-    (λ c κs. tt)
-    (λ c. search needs)
-    (λ c κs. tt)
-    returns
-    returns-2
-    returns-3
-    returns-4)
+adds-spec = tie.close (tie.spec
+    (λ c. search needs) (λ c. search needs) (λ c κs. tt) (λ c. search needs) (λ c κs. tt) (λ c κs. tt) (λ c. search needs) (λ c κs. tt)
+    returns returns-2 returns-3 returns-4)

@@ -14,6 +14,4 @@ unfolding byteOf
 returns-2 c = rw (le-leb (c .before .args .n) 255 (omega arith))
 
 pub byte-spec : {M : Type 1} → statement M
-byte-spec =
-    tie.close (tie.spec
-    returns (λ c. search needs) returns-2)
+byte-spec = tie.close (tie.spec returns (λ c. search needs) returns-2)

@@ -17,7 +17,7 @@ returns-2 c =
     let d = c .before .before in
     let a = d .before .args in
     let e : a .ready ≡ true = not-false _ (d .if1 .left) in
-    rw (e, lt-leb (max (a .most) (a .m .width)) 32 (omega arith))
+    rw (e, lt-leb (max (a .most) (a .b .width)) 32 (omega arith))
 
 returns-3 : tie.Need-returns-3
 unfolding clauseFailure lineFits
@@ -25,7 +25,7 @@ returns-3 c =
     let d = c .before .before .before .before in
     let a = d .before .args in
     let e : a .ready ≡ true = not-false _ (d .if1 .left) in
-    rw (e, le-leb (max (a .most) (a .m .width)) 32 (omega arith), lt-leb (a .m .arguments) 8 (omega arith))
+    rw (e, le-leb (max (a .most) (a .b .width)) 32 (omega arith), lt-leb (a .b .arguments) 8 (omega arith))
 
 returns-4 : tie.Need-returns-4
 unfolding clauseFailure lineFits
@@ -33,7 +33,7 @@ returns-4 c =
     let d = c .before .before .before .before .before in
     let a = d .before .args in
     let e : a .ready ≡ true = not-false _ (d .if1 .left) in
-    rw (e, le-leb (max (a .most) (a .m .width)) 32 (omega arith), le-leb (a .m .arguments) 8 (omega arith), c .if4 .taken)
+    rw (e, le-leb (max (a .most) (a .b .width)) 32 (omega arith), le-leb (a .b .arguments) 8 (omega arith), c .if4 .taken)
 
 returns-5 : tie.Need-returns-5
 unfolding clauseFailure lineFits
@@ -41,9 +41,7 @@ returns-5 c =
     let d = c .before .before .before .before .before in
     let a = d .before .args in
     let e : a .ready ≡ true = not-false _ (d .if1 .left) in
-    rw (e, le-leb (max (a .most) (a .m .width)) 32 (omega arith), le-leb (a .m .arguments) 8 (omega arith), c .if4 .left)
+    rw (e, le-leb (max (a .most) (a .b .width)) 32 (omega arith), le-leb (a .b .arguments) 8 (omega arith), c .if4 .left)
 
 pub clause-failure-spec : {M : Type 1} → statement M
-clause-failure-spec =
-    tie.close (tie.spec
-    returns (λ c κs. tt) returns-2 returns-3 returns-4 returns-5)
+clause-failure-spec = tie.close (tie.spec returns (λ c κs. tt) returns-2 returns-3 returns-4 returns-5)

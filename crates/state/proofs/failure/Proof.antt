@@ -52,7 +52,6 @@ unfolding failureOf
 returns-8 c = rw (c .before .before .l3 .given .1) (c .step-failure .ensures)
 
 pub failure-spec : {M : Type 1} → statement M
-failure-spec =
-    tie.close (tie.spec
-    (λ c. search needs) (λ c. search needs) returns returns-2 (λ c. search needs) returns-3 (λ c κs. tt)
-    (λ c. search needs) (λ c κs. tt) returns-4 returns-5 returns-6 returns-7 returns-8)
+failure-spec = tie.close (tie.spec
+    (λ c. search needs) (λ c. search needs) returns returns-2 (λ c. search needs) returns-3 (λ c κs. tt) (λ c. search needs)
+    (λ c κs. tt) returns-4 returns-5 returns-6 returns-7 returns-8)

@@ -9,6 +9,4 @@ unfolding freshState
 returns c = (refl, fresh-begins)
 
 pub fresh-spec : {M : Type 1} → statement M
-fresh-spec =
-    tie.close (tie.spec
-    returns)
+fresh-spec = tie.close (tie.spec returns)

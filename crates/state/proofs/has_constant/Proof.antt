@@ -26,6 +26,5 @@ returns-2 : tie.Need-returns-2 Inv-loop μ-loop
 returns-2 c = let l = (c .before .loop) in (sym (l .inv .1 ∙ constant-none _ (l .i) (omega arith)), refl)
 
 pub has-constant-spec : {M : Type 1} → statement M
-has-constant-spec =
-    tie.close (tie.spec
+has-constant-spec = tie.close (tie.spec
     Inv-loop μ-loop loop-holds (λ c. omega arith) returns (λ c. omega arith) (λ c. omega arith) loop-again returns-2)

@@ -20,6 +20,4 @@ unfolding placed
 returns-3 c = rw (le-leb ((c .before .before .args) .start + (c .before .before .args) .at) (office .bytes) (omega arith))
 
 pub place-spec : {M : Type 1} → statement M
-place-spec =
-    tie.close (tie.spec
-    returns returns-2 (λ c. search needs) (λ c. search needs) returns-3)
+place-spec = tie.close (tie.spec returns returns-2 (λ c. search needs) (λ c. search needs) returns-3)

@@ -31,6 +31,4 @@ returns c =
     (e, (w .1, (refl, refl)))
 
 pub see-spec : {M : Type 1} → statement M
-see-spec =
-    tie.close (tie.spec
-    (λ c κs. tt) (λ c κs. tt) (λ c κs. tt) (λ c κs. tt) returns)
+see-spec = tie.close (tie.spec (λ c κs. tt) (λ c κs. tt) (λ c κs. tt) (λ c κs. tt) returns)

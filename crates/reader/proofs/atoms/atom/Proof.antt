@@ -8,6 +8,4 @@ returns : tie.Need-returns
 returns c = let a = (c .before .before .before .before .before .args) in let s = now (a .s) in let table = now (a .table) in rw (← atom-shape table s (a .at) (a .depth) ((c .before .word) .ensures .0)) ((c .shape) .ensures)
 
 pub atom-spec : {M : Type 1} → statement M
-atom-spec =
-    tie.close (tie.spec
-    (λ c. refl) (λ c κs. tt) (λ c κs. tt) returns)
+atom-spec = tie.close (tie.spec (λ c. refl) (λ c κs. tt) (λ c κs. tt) returns)

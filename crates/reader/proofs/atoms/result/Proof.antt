@@ -15,7 +15,6 @@ returns-3 : tie.Need-returns-3
 returns-3 c = let a = (c .before .before .before .before .before .before .before .before .before .args) in let s = now (a .s) in let table = now (a .table) in (c .settle2) .ensures ∙ result-bad table s (a .at) (a .depth) (a .a) _ ((c .before .before .before .before .before .word) .ensures .0) ((c .before .before .before .before .if1) .left) (sym ((c .before .before .before .may-be-none) .ensures) ∙ (c .before .before .if2) .left)
 
 pub result-spec : {M : Type 1} → statement M
-result-spec =
-    tie.close (tie.spec
-    (λ c. refl) (λ c κs. tt) (λ c κs. tt) returns (λ c κs. tt) (λ c κs. tt) (λ c κs. tt) (λ c. search needs)
-    (λ c κs. tt) (λ c κs. tt) returns-2 returns-3)
+result-spec = tie.close (tie.spec
+    (λ c. refl) (λ c κs. tt) (λ c κs. tt) returns (λ c κs. tt) (λ c κs. tt) (λ c κs. tt) (λ c. search needs) (λ c κs. tt) (λ c κs. tt)
+    returns-2 returns-3)

@@ -14,7 +14,5 @@ returns-3 : tie.Need-returns-3
 returns-3 c = let a = (c .before .before .before .before .before .before .before .before .before .before .args) in let s = now (a .s) in let table = now (a .table) in rw (shape-method table s (a .at) (a .depth) ((c .before .before .before .before .before .before .before .link) .ensures .0) ((c .before .before .before .before .before .if1) .left) ((c .before .before .before .word) .ensures .0) ((c .before .before .if2) .left) ((c .before .arrow) .ensures .0)) ((c .method) .ensures)
 
 pub shape-spec : {M : Type 1} → statement M
-shape-spec =
-    tie.close (tie.spec
-    (λ c κs. tt) (λ c κs. tt) returns (λ c. refl) (λ c κs. tt) (λ c κs. tt) returns-2 (λ c κs. tt) (λ c κs. tt)
-    returns-3)
+shape-spec = tie.close (tie.spec
+    (λ c κs. tt) (λ c κs. tt) returns (λ c. refl) (λ c κs. tt) (λ c κs. tt) returns-2 (λ c κs. tt) (λ c κs. tt) returns-3)

@@ -8,6 +8,4 @@ returns : tie.Need-returns
 returns c = let a = (c .before .before .before .before .before .args) in let s = now (a .s) in let table = now (a .table) in rw (← clause-word (a .depth) s (a .at) ((c .before .word) .ensures .0)) ((c .literals) .ensures)
 
 pub clause-spec : {M : Type 1} → statement M
-clause-spec =
-    tie.close (tie.spec
-    (λ c. refl) (λ c κs. tt) (λ c κs. tt) returns)
+clause-spec = tie.close (tie.spec (λ c. refl) (λ c κs. tt) (λ c κs. tt) returns)

@@ -16,7 +16,7 @@ abbrev μ-loop : tie.MeasureT-loop
 μ-loop s at depth table i₀ m₀ count₀ next₀ t12 t13 i m count next = length s + 1 - i
 
 loop-holds : tie.Need-loop-holds Inv-loop μ-loop
-loop-holds c = let a = (c .before .before .before .before .before .args) in start (literal-list (a .depth) (now (a .table))) (now (a .s)) (a .at) ((c .before .before .none) .ensures) ((c .word) .ensures .0)
+loop-holds c = let a = (c .before .before .before .before .before .args) in start (literal-list (a .depth) (now (a .table))) (now (a .s)) (a .at) ((c .before .before .nothing) .ensures) ((c .word) .ensures .0)
 
 add-count : tie.Need-add-count Inv-loop μ-loop
 add-count c = let a = (c .before .before .before .before .before .before .before .before .before .args) in let l = (c .before .before .before .loop) in let T = literal-list (a .depth) (now (a .table)) in let s = now (a .s) in omega (arith, within T s (a .at) (l .inv) ((c .before .before .loop-test) .taken))
@@ -28,10 +28,9 @@ loop-again : tie.Need-loop-again Inv-loop μ-loop
 loop-again c = let a = (c .before .before .before .before .before .before .before .before .before .before .before .args) in let l = (c .before .before .before .before .before .loop) in let T = literal-list (a .depth) (now (a .table)) in let s = now (a .s) in turn T s (a .at) (l .inv) ((c .before .before .before .before .loop-test) .taken) ((c .before .before .before .literal) .ensures) ((c .before .before .join) .ensures) ((c .word2) .ensures .0)
 
 returns : tie.Need-returns Inv-loop μ-loop
-returns c = let a = (c .before .before .before .before .before .before .before .before .before .before .before .args) in let l = (c .before .before .before .before .before .loop) in let T = literal-list (a .depth) (now (a .table)) in let s = now (a .s) in (c .settle) .ensures ∙ ap (settled s _) ((c .before .recount) .ensures) ∙ finish T s (a .at) (l .inv) ((c .before .before .before .before .loop-test) .left) ((c .before .before .word3) .ensures .0)
+returns c = let a = (c .before .before .before .before .before .before .before .before .before .before .before .args) in let l = (c .before .before .before .before .before .loop) in let T = literal-list (a .depth) (now (a .table)) in let s = now (a .s) in (c .settle) .ensures ∙ ap (settled s _) ((c .before .counted) .ensures) ∙ finish T s (a .at) (l .inv) ((c .before .before .before .before .loop-test) .left) ((c .before .before .word3) .ensures .0)
 
 pub literals-spec : {M : Type 1} → statement M
-literals-spec =
-    tie.close (tie.spec
-    Inv-loop μ-loop (λ c κs. tt) (λ c. refl) (λ c κs. tt) loop-holds (λ c κs. tt) (λ c κs. tt) add-count (λ c. refl)
-    (λ c κs. tt) loop-less loop-again (λ c. refl) (λ c κs. tt) (λ c κs. tt) (λ c κs. tt) returns)
+literals-spec = tie.close (tie.spec
+    Inv-loop μ-loop (λ c κs. tt) (λ c. refl) (λ c κs. tt) loop-holds (λ c κs. tt) (λ c κs. tt) add-count (λ c. refl) (λ c κs. tt)
+    loop-less loop-again (λ c. refl) (λ c κs. tt) (λ c κs. tt) (λ c κs. tt) returns)

@@ -15,6 +15,4 @@ returns-2 c =
     line-broken (now (a .table)) (now (a .s)) (input-track (now (a .table)) (now (a .s)) (a .at) (a .depth) (c .before .before .before .before .clause .ensures) (c .before .word .ensures .0)) (c .if1 .left)
 
 pub input-line-spec : {M : Type 1} → statement M
-input-line-spec =
-    tie.close (tie.spec
-    (λ c κs. tt) (λ c. refl) (λ c κs. tt) returns returns-2)
+input-line-spec = tie.close (tie.spec (λ c κs. tt) (λ c. refl) (λ c κs. tt) returns returns-2)

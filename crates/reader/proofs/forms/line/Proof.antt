@@ -28,7 +28,6 @@ returns-3 c =
     )
 
 pub line-spec : {M : Type 1} → statement M
-line-spec =
-    tie.close (tie.spec
-    (λ c. refl) (λ c κs. tt) (λ c κs. tt) returns (λ c. refl) (λ c κs. tt) (λ c κs. tt) returns-2 (λ c. refl)
-    (λ c κs. tt) (λ c κs. tt) returns-3)
+line-spec = tie.close (tie.spec
+    (λ c. refl) (λ c κs. tt) (λ c κs. tt) returns (λ c. refl) (λ c κs. tt) (λ c κs. tt) returns-2 (λ c. refl) (λ c κs. tt) (λ c κs. tt)
+    returns-3)

@@ -13,6 +13,4 @@ unfolding readSpaced readNumber
 returns c = let a = (c .before .before .before .before .args) in let s = now (a .s) in (c .number) .ensures .0 ∙ ap (numberAt s) (handed s (a .at) readNumber (word-stops 32 []) ((c .before .word) .ensures .0) refl)
 
 pub spaced-spec : {M : Type 1} → statement M
-spaced-spec =
-    tie.close (tie.spec
-    (λ c. refl) (λ c κs. tt) (λ c κs. tt) returns)
+spaced-spec = tie.close (tie.spec (λ c. refl) (λ c κs. tt) (λ c κs. tt) returns)

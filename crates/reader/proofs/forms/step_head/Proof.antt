@@ -10,6 +10,4 @@ returns c =
     rw (c .spaced5 .ensures, c .before .spaced4 .ensures, b .spaced3 .ensures, b .before .spaced2 .ensures, b .before .before .spaced .ensures, r .rule .ensures .0)
 
 pub step-head-spec : {M : Type 1} → statement M
-step-head-spec =
-    tie.close (tie.spec
-    (λ c κs. tt) (λ c κs. tt) (λ c κs. tt) (λ c κs. tt) (λ c κs. tt) (λ c κs. tt) returns)
+step-head-spec = tie.close (tie.spec (λ c κs. tt) (λ c κs. tt) (λ c κs. tt) (λ c κs. tt) (λ c κs. tt) (λ c κs. tt) returns)

@@ -30,7 +30,6 @@ returns-2 : tie.Need-returns-2
 returns-2 c = line-whole _ _ (track (c .before .before .before .before)) (omega (arith, c .before .before .before .if1 .left))
 
 pub step-line-spec : {M : Type 1} → statement M
-step-line-spec =
-    tie.close (tie.spec
-    (λ c κs. tt) (λ c. refl) (λ c κs. tt) (λ c κs. tt) (λ c. refl) (λ c κs. tt) (λ c κs. tt) (λ c. refl) (λ c κs. tt) (λ c κs. tt) (λ c. refl)
-    (λ c κs. tt) returns returns-2)
+step-line-spec = tie.close (tie.spec
+    (λ c κs. tt) (λ c. refl) (λ c κs. tt) (λ c κs. tt) (λ c. refl) (λ c κs. tt) (λ c κs. tt) (λ c. refl) (λ c κs. tt) (λ c κs. tt)
+    (λ c. refl) (λ c κs. tt) returns returns-2)

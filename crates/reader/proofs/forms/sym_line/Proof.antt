@@ -15,6 +15,4 @@ returns-2 c =
     line-broken (now (a .table)) (now (a .s)) (sym-track (now (a .table)) (now (a .s)) (a .at) (c .before .before .before .number .ensures .0) (c .before .word .ensures .0)) (c .if1 .left)
 
 pub sym-line-spec : {M : Type 1} → statement M
-sym-line-spec =
-    tie.close (tie.spec
-    (λ c κs. tt) (λ c. refl) (λ c κs. tt) returns returns-2)
+sym-line-spec = tie.close (tie.spec (λ c κs. tt) (λ c. refl) (λ c κs. tt) returns returns-2)

@@ -12,6 +12,4 @@ unfolding settled
 returns-2 c = rw (lt-leb _ _ (c .before .if1 .left), c .none .ensures)
 
 pub settle-spec : {M : Type 1} → statement M
-settle-spec =
-    tie.close (tie.spec
-    (λ c κs. tt) returns returns-2)
+settle-spec = tie.close (tie.spec (λ c κs. tt) returns returns-2)

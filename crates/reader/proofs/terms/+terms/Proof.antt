@@ -6,7 +6,7 @@ use lib.ListN.{length}
 use mathlib.Core.Logic.{⊎-elim}
 use mathlib.Core.Path.{refl, sym, _∙_, ap}
 use native.Mathlib.Omega.{arith}
-use Rattle.reader.specs.Summary.{empty, joined, settled, summary, termMeasure, appliedMeasure}
+use Rattle.reader.specs.Summary.{measured, empty, joined, settled, summary, termMeasure, appliedBounds}
 use Rattle.text.proofs.Places.{closes-tells, letter-tells, byte-here, byte-other, byte-past}
 use Rattle.reader.proofs.Measuring.{settled-past}
 use Rattle.reader.proofs.Loop.{On, start, within, finish, over, spaced, turned, advance}
@@ -15,9 +15,10 @@ use Rattle.reader.proofs.terms.terms.Reads as terms
 use Rattle.reader.proofs.terms.terms.Kinds as terms-kinds
 use Rattle.reader.proofs.terms.+terms.Lts-terms as terms-lts
 use Rattle.scan.proofs.numbers.number.Reads as number-reads
+use Rattle.reader.proofs.measures.counted.Reads as counted-reads
 use Rattle.reader.proofs.measures.join.Reads as join-reads
 use Rattle.reader.proofs.measures.none.Reads as none-reads
-use Rattle.reader.proofs.measures.recount.Reads as recount-reads
+use Rattle.reader.proofs.measures.nothing.Reads as nothing-reads
 use Rattle.reader.proofs.summaries.settle.Reads as settle-reads
 use Rattle.reader.proofs.terms.applied.Reads as applied-reads
 use Rattle.reader.proofs.terms.variable.Reads as variable-reads
@@ -43,16 +44,16 @@ terms-μ-loop s at depth table n i₀ m₀ count₀ i m count = length s + 1 - i
 
 -- the promises of the callees, and of `terms` itself below t
 abbrev callees : ℕ → terms-lts.Claims
-callees t = (none-reads.Asked, none-reads.Learnt, settle-reads.Asked, settle-reads.Learnt, recount-reads.Asked, recount-reads.Learnt, letter-reads.Asked, letter-reads.Learnt, number-reads.Asked, number-reads.Learnt, closes-reads.Asked, closes-reads.Learnt, applied-reads.Asked, applied-reads.Learnt, join-reads.Asked, join-reads.Learnt, terms-below t, terms.Post, variable-reads.Asked, variable-reads.Learnt)
+callees t = (nothing-reads.Asked, nothing-reads.Learnt, none-reads.Asked, none-reads.Learnt, settle-reads.Asked, settle-reads.Learnt, counted-reads.Asked, counted-reads.Learnt, letter-reads.Asked, letter-reads.Learnt, number-reads.Asked, number-reads.Learnt, closes-reads.Asked, closes-reads.Learnt, applied-reads.Asked, applied-reads.Learnt, join-reads.Asked, join-reads.Learnt, terms-below t, terms.Post, variable-reads.Asked, variable-reads.Learnt)
 
 terms-loop-holds : (t : ℕ) → terms-lts.Need-loop-holds (callees t) (terms-at t) terms.Post terms-Inv-loop terms-μ-loop
-terms-loop-holds t c = let a = c .before .before .before .args in start (term-list (a .depth) (now (a .table))) (now (a .s)) (a .at) (c .none .ensures) refl
+terms-loop-holds t c = let a = c .before .before .before .args in start (term-list (a .depth) (now (a .table))) (now (a .s)) (a .at) (c .nothing .ensures) refl
 
 terms-returns : (t : ℕ) → terms-lts.Need-returns (callees t) (terms-at t) terms.Post terms-Inv-loop terms-μ-loop
 terms-returns t c = let a = c .before .before .before .before .before .before .before .before .before .before .before .args in let l = c .before .before .before .before .before .before .before .loop in let T = term-list (a .depth) (now (a .table)) in let s = now (a .s) in let i = l .i in c .settle .ensures ∙ settled-past s _ _ ∙ finish T s (a .at) (l .inv) (omega (arith, byte-other s 32 i (omega arith) (c .before .before .before .before .if1 .taken))) (byte-other s 41 i (omega arith) (c .before .before .if2 .taken))
 
 terms-returns-2 : (t : ℕ) → terms-lts.Need-returns-2 (callees t) (terms-at t) terms.Post terms-Inv-loop terms-μ-loop
-terms-returns-2 t c = let a = c .before .before .before .before .before .before .before .before .before .before .before .args in let l = c .before .before .before .before .before .before .before .loop in let T = term-list (a .depth) (now (a .table)) in let s = now (a .s) in let i = l .i in c .settle2 .ensures ∙ ap (settled s _) (c .before .recount .ensures) ∙ finish T s (a .at) (l .inv) (omega (arith, byte-other s 32 i (omega arith) (c .before .before .before .before .if1 .taken))) (byte-here s 41 i (omega arith) (c .before .before .if2 .left))
+terms-returns-2 t c = let a = c .before .before .before .before .before .before .before .before .before .before .before .args in let l = c .before .before .before .before .before .before .before .loop in let T = term-list (a .depth) (now (a .table)) in let s = now (a .s) in let i = l .i in c .settle2 .ensures ∙ ap (settled s _) (c .before .counted .ensures) ∙ finish T s (a .at) (l .inv) (omega (arith, byte-other s 32 i (omega arith) (c .before .before .before .before .if1 .taken))) (byte-here s 41 i (omega arith) (c .before .before .if2 .left))
 
 terms-returns-3 : (t : ℕ) → terms-lts.Need-returns-3 (callees t) (terms-at t) terms.Post terms-Inv-loop terms-μ-loop
 terms-returns-3 t c = let a = c .before .before .before .before .before .before .before .before .before .before .args in let l = c .before .before .before .before .before .before .loop in let T = term-list (a .depth) (now (a .table)) in let s = now (a .s) in let i = l .i in let g = spaced T s (a .at) (l .inv) (byte-here s 32 i (omega arith) (c .before .before .before .if1 .left)) in c .settle3 .ensures ∙ over T s (a .at) (advance T s (a .at) empty g (omega arith) (no-term (now (a .table)) s (i + 1) empty (c .before .before .if3 .taken)) refl .0) _ (omega arith)
@@ -83,9 +84,9 @@ terms-turned t c =
     let z = c .before .before .if3 .left in
     let w = letter-tells _ _ (c .before .letter .ensures .0) in
     ⊎-elim
-    (λ k. let f = k .1 .result in let e = closes-tells _ _ (k .2 .ensures .0) .0 (k .3 .taken) in rw (k .7, k .8) (advance T s (a .at) (appliedMeasure u (f .value) empty) g (omega arith) (applied-term u s (i + 1) (a .depth) z (w 118 (omega arith) .1 (λ q. omega (arith, q, k .0 .taken))) (w 102 (omega arith) .0 (k .0 .taken) .1) (k .1 .ensures .0) (no-parts u s (f .end) (a .depth - 1) (e .1) (e .0))) (k .6 .ensures ∙ ap (joined (l .m)) (k .5 .ensures ∙ ap (appliedMeasure u (f .value)) (k .4 .ensures)))))
+    (λ k. let f = k .1 .result in let e = closes-tells _ _ (k .2 .ensures .0) .0 (k .3 .taken) in rw (k .7, k .8) (advance T s (a .at) (measured 1 (appliedBounds u (f .value) empty)) g (omega arith) (applied-term u s (i + 1) (a .depth) z (w 118 (omega arith) .1 (λ q. omega (arith, q, k .0 .taken))) (w 102 (omega arith) .0 (k .0 .taken) .1) (k .1 .ensures .0) (no-parts u s (f .end) (a .depth - 1) (e .1) (e .0))) (k .6 .ensures ∙ ap (joined (l .m)) (k .5 .ensures ∙ ap (appliedBounds u (f .value)) (k .4 .ensures)))))
     (⊎-elim
-    (λ k. let f = k .1 .result in rw (k .7, k .8) (advance T s (a .at) _ g (omega arith) (applied-term u s (i + 1) (a .depth) z (w 118 (omega arith) .1 (λ q. omega (arith, q, k .0 .taken))) (w 102 (omega arith) .0 (k .0 .taken) .1) (k .1 .ensures .0) (k .4 .ensures)) (k .6 .ensures ∙ ap (joined (l .m)) (k .5 .ensures))))
+    (λ k. let f = k .1 .result in rw (k .7, k .8) (advance T s (a .at) (measured 1 (appliedBounds u (f .value) (k .4 .result .measure))) g (omega arith) (applied-term u s (i + 1) (a .depth) z (w 118 (omega arith) .1 (λ q. omega (arith, q, k .0 .taken))) (w 102 (omega arith) .0 (k .0 .taken) .1) (k .1 .ensures .0) (k .4 .ensures)) (k .6 .ensures ∙ ap (joined (l .m)) (k .5 .ensures))))
     (λ k. rw (k .4, k .5) (turned T s (a .at) g (omega arith) (k .2 .ensures ∙ ap (summary (termMeasure u) s) (sym (variable-term u s (i + 1) (a .depth) z (w 118 (omega arith) .0 (k .1 .left) .1) (w 118 (omega arith) .0 (k .1 .left) .0)))) (k .3 .ensures))))
     (c .if4 .came)
 

@@ -15,6 +15,4 @@ returns-2 : tie.Need-returns-2
 returns-2 c = sym (declares-at _ _ _ (c .before .if1 .left))
 
 pub declared-spec : {M : Type 1} → statement M
-declared-spec =
-    tie.close (tie.spec
-    returns (λ c. search needs) cast-result returns-2)
+declared-spec = tie.close (tie.spec returns (λ c. search needs) cast-result returns-2)
