@@ -46,8 +46,8 @@ unfoldable pub ofClause : {M : Type 0} → Taken M → Clause → M
 ofClause T [] = T .nothing
 ofClause T (l ∷ c) = T .join (ofLiteral T l) (ofClause T c)
 
--- The bounds that the reader takes: their fields; of no part, of the variable next below w, of a symbol that is known or not, of a method with
--- n arguments; of two parts from left to right; and all of these over a table of argument counts.
+-- The bounds that the reader takes: of these fields; of no part, of the variable next below w, of a symbol that is known or not, of a
+-- method with n arguments, of two parts from left to right; and so over a table of argument counts.
 abbrev pub boundsOf : ℕ → ℕ → Bool → Bounds
 boundsOf w n d = record { width = w; arguments = n; declared = d }
 
