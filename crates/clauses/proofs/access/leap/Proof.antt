@@ -40,7 +40,7 @@ loop-again c =
     let o = c .tally2 .ensures in
     let e = c .before .before .tally .ensures in
     let h : tallied 41 s (l .i) 16 ≤ l .inner = omega arith in
-    (omega arith, omega arith, omega (arith, tallied-most 40 s (l .i) 16), l .inv .3 ∙ cc (passed s (l .i) (l .inner) 16 (omega arith) h))
+    (omega arith, omega arith, omega (arith, tallied-most 40 s (l .i) 16), l .inv .3 ∙ rw (o, e) (passed s (l .i) (l .inner) 16 (omega arith) h))
 
 returns-3 : tie.Need-returns-3 Inv-loop μ-loop
 returns-3 c = let (a, b, d, e) = c .before .loop .inv in record { within = a; further = b; shallow = d; same = e }

@@ -40,25 +40,25 @@ returns-3 : tie.Need-returns-3 Inv-loop μ-loop
 returns-3 c =
     let a = c .before .before .before .before .before .before .before .before .before .before .args in
     let l = c .before .before .before .before .before .loop in
-    (end-at (a .s .now) {j = l .i + 1} (omega arith) (cc (closing-closed (a .s .now) (l .i) (l .level) (omega arith) (omega arith) (omega arith))), refl)
+    (end-at (a .s .now) {j = l .i + 1} (omega arith) (l .inv .2 ∙ closing-closed (a .s .now) (l .i) (l .level) (omega arith) (omega arith) (omega arith)), refl)
 
 loop-again-2 : tie.Need-loop-again-2 Inv-loop μ-loop
 loop-again-2 c =
     let a = c .before .before .before .before .before .before .before .before .before .before .args in
     let l = c .before .before .before .before .before .loop in
-    (omega arith, omega arith, cc (closing-outer (a .s .now) (l .i) (l .level) (omega arith) (omega arith) (omega arith)))
+    (omega arith, omega arith, l .inv .2 ∙ closing-outer (a .s .now) (l .i) (l .level) (omega arith) (omega arith) (omega arith))
 
 loop-again-3 : tie.Need-loop-again-3 Inv-loop μ-loop
 loop-again-3 c =
     let a = c .before .before .before .before .before .before .before .before .before .args in
     let l = c .before .before .before .before .loop in
-    (omega arith, omega arith, cc (closing-on (a .s .now) (l .i) (l .level) (omega arith) (omega arith) (omega arith)))
+    (omega arith, omega arith, l .inv .2 ∙ closing-on (a .s .now) (l .i) (l .level) (omega arith) (omega arith) (omega arith))
 
 returns-4 : tie.Need-returns-4 Inv-loop μ-loop
 returns-4 c =
     let a = c .before .before .before .before .before .before .args in
     let l = c .before .loop in
-    (end-bad (a .s .now) (cc (closing-none (a .s .now) (l .i) (l .level) (omega arith))), refl)
+    (end-bad (a .s .now) (l .inv .2 ∙ closing-none (a .s .now) (l .i) (l .level) (omega arith)), refl)
 
 pub skip-spec : {M : Type 1} → statement M
 skip-spec =

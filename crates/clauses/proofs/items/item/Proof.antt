@@ -1,6 +1,5 @@
 use denote.Ref.{now}
-use Prim.Native.Nat.{_-_}
-use mathlib.Core.Path.{_≡_, refl}
+use mathlib.Core.Path.{_≡_, refl, _∙_}
 use mathlib.Core.List.{[], _∷_}
 use native.Mathlib.Omega.{arith}
 use lib.ListN.{drop}
@@ -20,10 +19,10 @@ loop-holds : tie.Need-loop-holds Inv-loop μ-loop
 loop-holds c = (refl, refl)
 
 loop-again : tie.Need-loop-again Inv-loop μ-loop
-loop-again c = (cc (item-later (now (c .before .before .before .before .args .s)) (c .before .before .loop .place) (c .before .before .loop .left) (omega arith)), refl)
+loop-again c = let l = c .before .before in (rw (c .pass .ensures) (l .loop .inv .0 ∙ item-later (now (l .before .before .args .s)) (l .loop .place) (l .loop .left) (omega arith)), l .loop .inv .1)
 
 returns : tie.Need-returns Inv-loop μ-loop
-returns c = cc (item-first (drop (c .before .before .before .loop .place) (now (c .before .before .before .before .before .args .s))) (c .before .before .before .loop .left) (omega arith))
+returns c = let l = c .before .before .before in rw (c .word .ensures .0, l .loop .inv .0, l .loop .inv .1, item-first (drop (l .loop .place) (now (l .before .before .args .s))) (l .loop .left) (omega arith))
 
 pub item-spec : {M : Type 1} → statement M
 item-spec =

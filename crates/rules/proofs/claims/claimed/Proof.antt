@@ -5,7 +5,7 @@ use Rattle.rules.proofs.claims.claimed.Tie as tie
 
 returns : tie.Need-returns
 unfolding claimBy
-returns c = cc
+returns c = rw (c .ends .ensures .0, c .before .others2 .ensures .0, c .before .before .others .ensures .0, c .before .before .before .new-literal .ensures)
 
 pub claimed-spec : {M : Type 1} → statement M
 claimed-spec =
