@@ -1,5 +1,5 @@
 use denote.Ref.{now}
-use borrow.Author.Needs.{needs}
+use native.Mathlib.Omega.{arith}
 use Rattle.text.specs.Words.{bytes}
 use Rattle.meaning.specs.Means.{named}
 use Rattle.print.proofs.Stores.{line-wrote}
@@ -14,5 +14,5 @@ returns c =
 pub put-rests-spec : {M : Type 1} → statement M
 put-rests-spec =
     tie.close (tie.spec
-    (λ c. search needs) (λ c κs. tt) (λ c. search needs) (λ c. search needs) (λ c. search needs) (λ c κs. tt) (λ c. search needs)
-    (λ c. search needs) (λ c. search needs) (λ c. search needs) (λ c. search needs) (λ c κs. tt) (λ c. search needs) (λ c. search needs) returns)
+    (λ c. omega arith) (λ c κs. tt) (λ c. omega arith) (λ c. omega arith) (λ c. omega arith) (λ c κs. tt) (λ c. omega arith)
+    (λ c. omega arith) (λ c. omega arith) (λ c. omega arith) (λ c. omega arith) (λ c κs. tt) (λ c. omega arith) (λ c. omega arith) returns)
