@@ -1,18 +1,17 @@
-// Comparing filled items.
+// Comparing a filled item with other bytes.
 use clauses::access::entry;
 use clauses::access::skip;
 use scan::numbers::number;
 use scan::words::prefix;
 use scan::words::word;
 ghost use mathlib.Core.Path.{_≡_};
-ghost use Prim.Native.Nat.{_-_};
-ghost use lib.ListN.{length, drop};
+ghost use lib.ListN.{drop};
 ghost use mathlib.Core.List.{[], _∷_};
 ghost use Rattle.text.specs.Places.{endOf};
 ghost use Rattle.text.specs.Read.{bad, strip};
 ghost use Rattle.text.specs.Access.{entryOf};
 ghost use Rattle.filling.specs.Filled.{itemDepth, holeDepth, itself, filledBy, fillItem, inside, indexed, matches};
-ghost use Rattle.filling.specs.Filled.{endsOf, replacing, plain, both, sameItem, endsAt};
+ghost use Rattle.filling.specs.Filled.{endsOf, plain, endsAt};
 
 // The brackets of a literal whose terms nest so deep: its own, its atom's, its arguments', and those of its terms.
 pub fn item_depth(depth: u8) -> usize
@@ -34,16 +33,8 @@ pub struct Ends {
     pub pos: usize,
 }
 
-// A place of the clause and one of the other text; the item at `hole` is replaced by the one at `from`; so many brackets deep at most.
-pub struct Walk {
-    pub at: usize,
-    pub pos: usize,
-    pub hole: usize,
-    pub from: usize,
-    pub depth: usize,
-}
-
-fn differ(clause: &[u8], other: &[u8]) -> Ends
+// The places past the ends.
+pub fn differ(clause: &[u8], other: &[u8]) -> Ends
     ensures { λ r. ⌜ r ≡ endsOf (now (clause .entry)) (now (other .entry)) bad ⌝ }
 {
     Ends {
@@ -53,7 +44,7 @@ fn differ(clause: &[u8], other: &[u8]) -> Ends
 }
 
 // The two places, where both are places of their texts.
-fn reach(clause: &[u8], at: usize, other: &[u8], pos: usize) -> Ends
+pub fn reach(clause: &[u8], at: usize, other: &[u8], pos: usize) -> Ends
     ensures { λ r. ⌜ r ≡ endsAt (now (clause .entry)) at (now (other .entry)) pos ⌝ }
 {
     if at > clause.len() {
@@ -66,7 +57,7 @@ fn reach(clause: &[u8], at: usize, other: &[u8], pos: usize) -> Ends
 }
 
 // The place past this byte, if it stands at `at`.
-fn past(text: &[u8], at: usize, byte: u8) -> usize
+pub fn past(text: &[u8], at: usize, byte: u8) -> usize
     ensures { λ r. ⌜ r ≡ endOf (now (text .entry)) (strip (byte ∷ []) (drop at (now (text .entry)))) ⌝ }
 {
     if at >= text.len() {
@@ -93,7 +84,7 @@ fn bytes_past(text: &[u8], at: usize, w: &[u8]) -> usize
 }
 
 // A variable of the clause, from its number on: its entry stands in the rest.
-fn expect_entry(
+pub fn expect_entry(
     clause: &[u8],
     at: usize,
     line: &[u8],
@@ -116,66 +107,6 @@ fn expect_entry(
         return differ(clause, rest);
     }
     Ends { at: end, pos: next }
-}
-
-// The item at w.at of clause a, filled by the first list of the line, and with the item at w.from of clause b, filled by the second, in
-// place of the item at w.hole: it stands at w.pos of the rest.
-pub fn expect(
-    a: &[u8],
-    first: &[usize],
-    b: &[u8],
-    second: &[usize],
-    line: &[u8],
-    rest: &[u8],
-    w: Walk,
-) -> Ends
-    ensures { λ r.
-        ⌜ r ≡ endsOf (now (a .entry)) (now (rest .entry)) (matches
-        (fillItem (replacing (now (line .entry)) (now (first .entry)) (length (now (a .entry)) - w .hole) (now (b .entry))
-        (w .from) (now (second .entry))) (w .depth) (drop (w .at) (now (a .entry)))) (drop (w .pos) (now (rest .entry)))) ⌝ }
-{
-    let at = w.at;
-    if w.depth == 0 {
-        return differ(a, rest);
-    }
-    if at == w.hole {
-        let found = expect_filled(b, w.from, w.depth - 1, line, second, rest, w.pos);
-        return reach(a, skip(a, at), rest, found.pos);
-    }
-    let index = word(a, at, b"(v ");
-    if index <= a.len() {
-        return expect_entry(a, index, line, first, rest, w.pos);
-    }
-    let mut i = word(a, at, b"(");
-    let mut j = word(rest, w.pos, b"(");
-    if j > rest.len() {
-        return differ(a, rest);
-    }
-    while i < a.len() {
-        let byte = a[i];
-        if byte == b'(' {
-            let part = Walk {
-                at: i,
-                pos: j,
-                hole: w.hole,
-                from: w.from,
-                depth: w.depth - 1,
-            };
-            let found = expect(a, first, b, second, line, rest, part);
-            i = found.at;
-            j = found.pos;
-        } else {
-            j = past(rest, j, byte);
-            if j > rest.len() {
-                return differ(a, rest);
-            }
-            i += 1;
-            if byte == b')' {
-                return Ends { at: i, pos: j };
-            }
-        }
-    }
-    differ(a, rest)
 }
 
 // The inside of an item of the clause from `at` on, filled by a list of the line, stands at `pos` of the rest; the items in it are at
@@ -231,7 +162,7 @@ fn expect_inside(
 }
 
 // The item at `at` of the clause, filled by a list of the line, stands at `pos` of the rest.
-fn expect_filled(
+pub fn expect_filled(
     clause: &[u8],
     at: usize,
     depth: usize,
@@ -293,91 +224,4 @@ pub fn stands(
         return expect_ground(clause, at, rest, pos);
     }
     expect_filled(clause, at, depth, line, list, rest, pos)
-}
-
-// A variable of clause a, from its number on: its entry is the item at y of clause b, filled by the second list.
-fn same_entry(
-    a: &[u8],
-    x: usize,
-    line: &[u8],
-    first: &[usize],
-    b: &[u8],
-    y: usize,
-    second: &[usize],
-    depth: usize,
-) -> Ends
-    ensures { λ r.
-        ⌜ r ≡ endsOf (now (a .entry)) (now (b .entry)) (both (indexed (entryOf (now (line .entry)) (now (first .entry)))
-        (drop x (now (a .entry)))) (fillItem (plain (now (line .entry)) (now (second .entry))) depth
-        (drop y (now (b .entry))))) ⌝ }
-{
-    let index = number(a, x);
-    let end = word(a, index.end, b")");
-    if end > a.len() {
-        return differ(a, b);
-    }
-    let bytes = entry(line, first, index.value);
-    let found = expect_filled(b, y, depth, line, second, bytes, 0);
-    if found.pos != bytes.len() {
-        return differ(a, b);
-    }
-    Ends {
-        at: end,
-        pos: found.at,
-    }
-}
-
-// The items at x of clause a and at y of clause b, each filled by its own list of the line, are the same.
-pub fn same(
-    a: &[u8],
-    x: usize,
-    line: &[u8],
-    first: &[usize],
-    b: &[u8],
-    y: usize,
-    second: &[usize],
-    depth: usize,
-) -> Ends
-    ensures { λ r.
-        ⌜ r ≡ endsOf (now (a .entry)) (now (b .entry)) (sameItem (plain (now (line .entry)) (now (first .entry)))
-        (plain (now (line .entry)) (now (second .entry))) depth (drop x (now (a .entry))) (drop y (now (b .entry)))) ⌝ }
-{
-    if depth == 0 {
-        return differ(a, b);
-    }
-    let index = word(a, x, b"(v ");
-    if index <= a.len() {
-        return same_entry(a, index, line, first, b, y, second, depth);
-    }
-    let index = word(b, y, b"(v ");
-    if index <= b.len() {
-        let found = same_entry(b, index, line, second, a, x, first, depth);
-        return Ends {
-            at: found.pos,
-            pos: found.at,
-        };
-    }
-    let mut i = word(a, x, b"(");
-    let mut j = word(b, y, b"(");
-    if j > b.len() {
-        return differ(a, b);
-    }
-    while i < a.len() {
-        let byte = a[i];
-        if byte == b'(' {
-            let found = same(a, i, line, first, b, j, second, depth - 1);
-            i = found.at;
-            j = found.pos;
-        } else {
-            j = past(b, j, byte);
-            if j > b.len() {
-                return differ(a, b);
-            }
-            i += 1;
-            if byte == b')' {
-                return Ends { at: i, pos: j };
-            }
-        }
-    }
-    differ(a, b)
 }

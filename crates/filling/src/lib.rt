@@ -1,4 +1,2 @@
-// Items of written clauses, filled by a list of a step's line: whether they agree, and whether they stand in the claim.
-pub mod agree;
-pub mod claims;
-mod compare;
+// Items of written clauses, filled by a list of a step's line: whether they stand in other bytes.
+pub mod compare;

@@ -1,4 +1,7 @@
 // Checks 9 and 10: the rule table. The literals at I and J begin at the places x of clause a and y of clause b.
+use agreement::agree::agree;
+use agreement::agree::calls;
+use agreement::agree::covers;
 use choices::both;
 use choices::choose;
 use clauses::access::occurrence;
@@ -15,9 +18,6 @@ use clauses::shapes::scalar;
 use clauses::shapes::signature;
 use clauses::shapes::value;
 use clauses::shapes::within;
-use filling::agree::agree;
-use filling::agree::calls;
-use filling::agree::covers;
 use logic::Link;
 use logic::Rule;
 use rule_numbers::row;

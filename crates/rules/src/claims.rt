@@ -1,12 +1,12 @@
 // Check 11: the fourth column of the rule table, and the claim as a whole. `rest` is the rest of the line from the claim on.
-use filling::claims::Hole;
-use filling::claims::Terms;
-use filling::claims::begin;
-use filling::claims::ends;
-use filling::claims::equated;
-use filling::claims::others;
-use filling::claims::reflexive;
-use filling::claims::rewritten;
+use expected::claims::Hole;
+use expected::claims::Terms;
+use expected::claims::begin;
+use expected::claims::ends;
+use expected::claims::equated;
+use expected::claims::others;
+use expected::claims::reflexive;
+use expected::claims::rewritten;
 use rule_table::Found;
 use rule_table::Kind;
 ghost use mathlib.Core.Path.{_≡_};
