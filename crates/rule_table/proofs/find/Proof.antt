@@ -1,7 +1,6 @@
 use mathlib.Core.Path.{_≡_, refl}
 use Rattle.rule_table.specs.Rows.{foundBy, replaced}
 use Rattle.rule_table.specs.declared.Kind.the-variants.{Reflexivity, Resolution, Factoring, Rewriting, Acyclicity, Scalarity, Elimination}
-use borrow.Author.Needs.{needs}
 use Rattle.rule_table.proofs.find.Statement.{statement}
 use Rattle.rule_table.proofs.find.Tie as tie
 
@@ -36,7 +35,7 @@ returns-7 c = (let e : c .before .before .before .before .before .args .r .kind 
 pub find-spec : {M : Type 1} → statement M
 find-spec =
     tie.close (tie.spec
-    (λ c. search needs) (λ c κs. tt) (λ c. search needs) (λ c κs. tt) (λ c. search needs) (λ c κs. tt)
-    (λ c. search needs) (λ c κs. tt) (λ c. search needs) (λ c κs. tt) (λ c. search needs) (λ c κs. tt)
-    (λ c. search needs) (λ c κs. tt) returns returns-2 returns-3 returns-4 returns-5
+    (λ c. c .match .keys1) (λ c κs. tt) (λ c. c .match .keys2) (λ c κs. tt) (λ c. c .match .keys3) (λ c κs. tt)
+    (λ c. c .match .keys4) (λ c κs. tt) (λ c. c .match .keys5) (λ c κs. tt) (λ c. c .match .keys6) (λ c κs. tt)
+    (λ c. c .match .keys7) (λ c κs. tt) returns returns-2 returns-3 returns-4 returns-5
     returns-6 returns-7)

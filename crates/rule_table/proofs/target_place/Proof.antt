@@ -1,8 +1,8 @@
 use mathlib.Core.Path.{_≡_}
+use native.Mathlib.Omega.{arith}
 use Rattle.rule_table.specs.Rows.{targetPlace}
 use Rattle.clauses.specs.Shapes.{argumentAt}
 use Rattle.rule_table.specs.declared.Target.the-variants.{Nothing, Occurrence, Subclass, Member, Object, Argument, Result}
-use borrow.Author.Needs.{needs}
 use Rattle.rule_table.proofs.target_place.Statement.{statement}
 use Rattle.rule_table.proofs.target_place.Tie as tie
 
@@ -37,7 +37,7 @@ returns-7 c = let e : c .before .before .before .before .before .args .target �
 pub target-place-spec : {M : Type 1} → statement M
 target-place-spec =
     tie.close (tie.spec
-    (λ c. search needs) (λ c. search needs) (λ c. search needs) (λ c κs. tt) (λ c. search needs) (λ c κs. tt)
-    (λ c κs. tt) (λ c. search needs) (λ c κs. tt) (λ c κs. tt) (λ c. search needs) (λ c κs. tt) (λ c. search needs)
-    (λ c κs. tt) (λ c κs. tt) (λ c. search needs) (λ c κs. tt) (λ c κs. tt) returns returns-2 returns-3 returns-4
+    (λ c. c .match .keys1) (λ c. omega arith) (λ c. c .match .keys2) (λ c κs. tt) (λ c. c .match .keys3) (λ c κs. tt)
+    (λ c κs. tt) (λ c. c .match .keys4) (λ c κs. tt) (λ c κs. tt) (λ c. c .match .keys5) (λ c κs. tt) (λ c. c .match .keys6)
+    (λ c κs. tt) (λ c κs. tt) (λ c. c .match .keys7) (λ c κs. tt) (λ c κs. tt) returns returns-2 returns-3 returns-4
     returns-5 returns-6 returns-7)
