@@ -28,7 +28,7 @@ fn same_entry(
         (drop y (now (b .entry))))) ⌝ }
 {
     let index = number(a, x);
-    let end = word(a, index.end, b")");
+    let end = past(a, index.end, b')');
     if end > a.len() {
         return differ(a, b);
     }
@@ -73,8 +73,8 @@ pub fn same(
             pos: found.at,
         };
     }
-    let mut i = word(a, x, b"(");
-    let mut j = word(b, y, b"(");
+    let mut i = past(a, x, b'(');
+    let mut j = past(b, y, b'(');
     if j > b.len() {
         return differ(a, b);
     }

@@ -49,8 +49,8 @@ pub fn expect(
     if index <= a.len() {
         return expect_entry(a, index, line, first, rest, w.pos);
     }
-    let mut i = word(a, at, b"(");
-    let mut j = word(rest, w.pos, b"(");
+    let mut i = past(a, at, b'(');
+    let mut j = past(rest, w.pos, b'(');
     if j > rest.len() {
         return differ(a, rest);
     }

@@ -98,7 +98,7 @@ pub fn expect_entry(
         (drop pos (now (rest .entry)))) ⌝ }
 {
     let index = number(clause, at);
-    let end = word(clause, index.end, b")");
+    let end = past(clause, index.end, b')');
     if end > clause.len() {
         return differ(clause, rest);
     }
@@ -183,8 +183,8 @@ pub fn expect_filled(
     if index <= clause.len() {
         return expect_entry(clause, index, line, list, rest, pos);
     }
-    let i = word(clause, at, b"(");
-    let j = word(rest, pos, b"(");
+    let i = past(clause, at, b'(');
+    let j = past(rest, pos, b'(');
     if j > rest.len() {
         return differ(clause, rest);
     }

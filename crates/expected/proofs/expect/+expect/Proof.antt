@@ -44,7 +44,7 @@ abbrev μ-loop : expect-lts.MeasureT-loop
 
 -- the promises of the callees, and of `expect` itself below t
 abbrev callees : ℕ → expect-lts.Claims
-callees t = (differ-reads.Asked, differ-reads.Learnt, expect-filled-reads.Asked, expect-filled-reads.Learnt, skip-reads.Asked, skip-reads.Learnt, reach-reads.Asked, reach-reads.Learnt, word-reads.Asked, word-reads.Learnt, expect-entry-reads.Asked, expect-entry-reads.Learnt, expect-below t, expect.Post, past-reads.Asked, past-reads.Learnt)
+callees t = (differ-reads.Asked, differ-reads.Learnt, expect-filled-reads.Asked, expect-filled-reads.Learnt, skip-reads.Asked, skip-reads.Learnt, reach-reads.Asked, reach-reads.Learnt, word-reads.Asked, word-reads.Learnt, expect-entry-reads.Asked, expect-entry-reads.Learnt, past-reads.Asked, past-reads.Learnt, expect-below t, expect.Post)
 
 -- A call with depth left: its texts, its filler, and where its item is.
 abbrev Deep : ℕ → Type 0
@@ -96,65 +96,65 @@ returns-3 t c =
 
 returns-4 : (t : ℕ) → expect-lts.Need-returns-4 (callees t) (expect-at t) expect.Post Inv-loop μ-loop
 returns-4 t c =
-    let word = c .before .before .before .before .before .before .before in
+    let word = c .before .before .before .before .before in
     let e = word .before .before .before .before in
-    ends-bad (p t e) (r t e) (c .differ2 .ensures) (item-shut (f t e) (p t e) (r t e) (d t e) (at t e) (pos t e) (e .if1 .left) (apart t e (word .before .before .if2 .left)) (word .word .ensures .0) (c .before .before .before .before .before .before .if3 .left) (c .before .before .before .before .word2 .ensures .0) (c .before .before .word3 .ensures .0) (c .before .if4 .taken))
+    ends-bad (p t e) (r t e) (c .differ2 .ensures) (item-shut (f t e) (p t e) (r t e) (d t e) (at t e) (pos t e) (e .if1 .left) (apart t e (word .before .before .if2 .left)) (word .word .ensures .0) (c .before .before .before .before .if3 .left) (c .before .before .before .past .ensures) (c .before .before .past2 .ensures) (c .before .if4 .taken))
 
 loop-holds : (t : ℕ) → expect-lts.Need-loop-holds (callees t) (expect-at t) expect.Post Inv-loop μ-loop
 loop-holds t c =
-    let word = c .before .before .before .before .before .before in
+    let word = c .before .before .before .before in
     let e = word .before .before .before .before in
-    fill-begins (fillItem (f t e) (d t e - 1)) (p t e) (r t e) _ _ (item-opens (f t e) (p t e) (r t e) (d t e) (at t e) (pos t e) (e .if1 .left) (apart t e (word .before .before .if2 .left)) (word .word .ensures .0) (c .before .before .before .before .before .if3 .left) (c .before .before .before .word2 .ensures .0) (c .before .word3 .ensures .0) (c .if4 .left))
+    fill-begins (fillItem (f t e) (d t e - 1)) (p t e) (r t e) _ _ (item-opens (f t e) (p t e) (r t e) (d t e) (at t e) (pos t e) (e .if1 .left) (apart t e (word .before .before .if2 .left)) (word .word .ensures .0) (c .before .before .before .if3 .left) (c .before .before .past .ensures) (c .before .past2 .ensures) (c .if4 .left))
 
 expect-requires : (t : ℕ) → expect-lts.Need-expect-requires (callees t) (expect-at t) expect.Post Inv-loop μ-loop
-expect-requires t c κs = let e = c .before .before .before .before .before .before .before .before .before .before .before .before .before .before .before in (lower (e .if1 .left) (e .before .before .before .before .before .before .before .before .pre .0), tt)
+expect-requires t c κs = let e = c .before .before .before .before .before .before .before .before .before .before .before .before .before in (lower (e .if1 .left) (e .before .before .before .before .before .before .before .before .pre .0), tt)
 
 loop-less : (t : ℕ) → expect-lts.Need-loop-less (callees t) (expect-at t) expect.Post Inv-loop μ-loop
 loop-less t c =
     let n = c .before .before .before .before in
     let l = n .before in
-    let e = l .before .before .before .before .before .before .before .before .before .before .before in
+    let e = l .before .before .before .before .before .before .before .before .before in
     part-less (p t e) (r t e) (l .loop .i) (l .loop .j) (l .loop .inv) (n .loop-test .taken) (c .before .before .if5 .taken) (shorter t e) (c .expect .ensures)
 
 loop-again : (t : ℕ) → expect-lts.Need-loop-again (callees t) (expect-at t) expect.Post Inv-loop μ-loop
 loop-again t c =
     let n = c .before .before .before .before in
     let l = n .before in
-    let e = l .before .before .before .before .before .before .before .before .before .before .before in
+    let e = l .before .before .before .before .before .before .before .before .before in
     part-again (p t e) (r t e) (l .loop .i) (l .loop .j) (l .loop .inv) (n .loop-test .taken) (c .before .before .if5 .taken) (shorter t e) (c .expect .ensures)
 
 returns-5 : (t : ℕ) → expect-lts.Need-returns-5 (callees t) (expect-at t) expect.Post Inv-loop μ-loop
 returns-5 t c =
     let n = c .before .before .before .before .before in
     let l = n .before in
-    let e = l .before .before .before .before .before .before .before .before .before .before .before in
-    byte-other (p t e) (r t e) (l .loop .i) (l .loop .j) (l .loop .inv) (n .loop-test .taken) (c .before .before .before .if5 .left) (c .before .before .past .ensures) (c .before .if6 .taken) (c .differ3 .ensures)
+    let e = l .before .before .before .before .before .before .before .before .before in
+    byte-other (p t e) (r t e) (l .loop .i) (l .loop .j) (l .loop .inv) (n .loop-test .taken) (c .before .before .before .if5 .left) (c .before .before .past3 .ensures) (c .before .if6 .taken) (c .differ3 .ensures)
 
 returns-6 : (t : ℕ) → expect-lts.Need-returns-6 (callees t) (expect-at t) expect.Post Inv-loop μ-loop
 returns-6 t c =
     let n = c .before .before .before .before .before in
     let l = n .before in
-    let e = l .before .before .before .before .before .before .before .before .before .before .before in
-    byte-closes (p t e) (r t e) (l .loop .i) (l .loop .j) (l .loop .inv) (n .loop-test .taken) (c .before .before .before .if5 .left) (c .before .before .past .ensures) (c .before .if6 .left) (c .if7 .taken)
+    let e = l .before .before .before .before .before .before .before .before .before in
+    byte-closes (p t e) (r t e) (l .loop .i) (l .loop .j) (l .loop .inv) (n .loop-test .taken) (c .before .before .before .if5 .left) (c .before .before .past3 .ensures) (c .before .if6 .left) (c .if7 .taken)
 
 loop-again-2 : (t : ℕ) → expect-lts.Need-loop-again-2 (callees t) (expect-at t) expect.Post Inv-loop μ-loop
 loop-again-2 t c =
     let n = c .before .before .before .before .before in
     let l = n .before in
-    let e = l .before .before .before .before .before .before .before .before .before .before .before in
-    byte-again (p t e) (r t e) (l .loop .i) (l .loop .j) (l .loop .inv) (n .loop-test .taken) (c .before .before .before .if5 .left) (c .before .before .past .ensures) (c .before .if6 .left) (c .if7 .left)
+    let e = l .before .before .before .before .before .before .before .before .before in
+    byte-again (p t e) (r t e) (l .loop .i) (l .loop .j) (l .loop .inv) (n .loop-test .taken) (c .before .before .before .if5 .left) (c .before .before .past3 .ensures) (c .before .if6 .left) (c .if7 .left)
 
 returns-7 : (t : ℕ) → expect-lts.Need-returns-7 (callees t) (expect-at t) expect.Post Inv-loop μ-loop
 returns-7 t c =
     let l = c .before .before in
-    let e = l .before .before .before .before .before .before .before .before .before .before .before in
+    let e = l .before .before .before .before .before .before .before .before .before in
     loop-ends (p t e) (r t e) (l .loop .i) (l .loop .j) (l .loop .inv) (c .before .loop-test .left) (c .differ4 .ensures)
 
 pub +expect-spec : {M : Type 1} → statement M
 +expect-spec = close μ-expect λ t. expect-lts.spec (callees t) (expect-at t) expect.Post Inv-loop μ-loop
     (λ c κs. tt) (returns t) (λ c. positive (c .before .before .before .if1 .left)) (λ c κs. tt) (λ c κs. tt) (λ c κs. tt) (returns-2 t) (λ c. refl)
-    (λ c κs. tt) (λ c κs. tt) (returns-3 t) (λ c. refl) (λ c κs. tt) (λ c. refl) (λ c κs. tt) (λ c κs. tt)
-    (returns-4 t) (loop-holds t) (λ c. c .before .loop-test .taken) (λ c. positive (c .before .before .before .before .before .before .before .before .before .before .before .before .before .before .before .if1 .left))
+    (λ c κs. tt) (λ c κs. tt) (returns-3 t) (λ c κs. tt) (λ c κs. tt) (λ c κs. tt)
+    (returns-4 t) (loop-holds t) (λ c. c .before .loop-test .taken) (λ c. positive (c .before .before .before .before .before .before .before .before .before .before .before .before .before .if1 .left))
     (expect-requires t) (loop-less t) (loop-again t) (λ c κs. tt) (λ c κs. tt)
     (returns-5 t) (λ c. omega arith) (returns-6 t) (λ c. omega arith) (loop-again-2 t)
     (λ c κs. tt) (returns-7 t)

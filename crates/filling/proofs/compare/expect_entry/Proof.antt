@@ -9,29 +9,29 @@ use Rattle.filling.proofs.compare.expect_entry.Tie as tie
 
 returns : tie.Need-returns
 returns c =
-    let a = c .before .before .before .before .before .before .before .before .before .args in
-    let n = c .before .before .before .before .number in
-    let x = find-index (entryOf (now (a .line)) (now (a .list))) (now (a .clause)) (a .at) (n .ensures .0) (c .before .before .word .ensures .0) in
+    let a = c .before .before .before .before .before .before .before .before .args in
+    let n = c .before .before .before .number in
+    let x = find-index (entryOf (now (a .line)) (now (a .list))) (now (a .clause)) (a .at) (n .ensures .0) (c .before .before .past .ensures) in
     ends-bad (now (a .clause)) (now (a .rest)) (c .differ .ensures) (entry-lost (now (a .rest)) (a .pos) x (omega arith))
 
 returns-2 : tie.Need-returns-2
 returns-2 c =
-    let a = c .before .before .before .before .before .before .before .before .before .before .before .before .args in
-    let n = c .before .before .before .before .before .before .before .number in
-    let x = find-index (entryOf (now (a .line)) (now (a .list))) (now (a .clause)) (a .at) (n .ensures .0) (c .before .before .before .before .before .word .ensures .0) in
+    let a = c .before .before .before .before .before .before .before .before .before .before .before .args in
+    let n = c .before .before .before .before .before .before .number in
+    let x = find-index (entryOf (now (a .line)) (now (a .list))) (now (a .clause)) (a .at) (n .ensures .0) (c .before .before .before .before .before .past .ensures) in
     let o = rw (c .before .before .before .entry .ensures .0) at (c .before .before .bytes-past .ensures) in
     ends-bad (now (a .clause)) (now (a .rest)) (c .differ2 .ensures) (entry-other (now (a .rest)) (a .pos) x (omega arith) (omega (arith, o)))
 
 returns-3 : tie.Need-returns-3
 returns-3 c =
-    let a = c .before .before .before .before .before .before .before .before .before .before .before .args in
-    let n = c .before .before .before .before .before .before .number in
-    let x = find-index (entryOf (now (a .line)) (now (a .list))) (now (a .clause)) (a .at) (n .ensures .0) (c .before .before .before .before .word .ensures .0) in
+    let a = c .before .before .before .before .before .before .before .before .before .before .args in
+    let n = c .before .before .before .before .before .number in
+    let x = find-index (entryOf (now (a .line)) (now (a .list))) (now (a .clause)) (a .at) (n .ensures .0) (c .before .before .before .before .past .ensures) in
     let o = rw (c .before .before .entry .ensures .0) at (c .before .bytes-past .ensures) in
-    ends-at (now (a .clause)) (now (a .rest)) (c .before .before .before .before .word .result) (c .before .bytes-past .result) (omega arith) (omega arith) (rw o (entry-same (now (a .rest)) (a .pos) x (omega arith) (omega (arith, o))))
+    ends-at (now (a .clause)) (now (a .rest)) (c .before .before .before .before .past .result) (c .before .bytes-past .result) (omega arith) (omega arith) (rw o (entry-same (now (a .rest)) (a .pos) x (omega arith) (omega (arith, o))))
 
 pub expect-entry-spec : {M : Type 1} → statement M
 expect-entry-spec =
     tie.close (tie.spec
-    (λ c κs. tt) (λ c. refl) (λ c κs. tt) (λ c κs. tt) returns (λ c κs. tt) (λ c κs. tt) (λ c κs. tt) returns-2
+    (λ c κs. tt) (λ c κs. tt) (λ c κs. tt) returns (λ c κs. tt) (λ c κs. tt) (λ c κs. tt) returns-2
     returns-3)

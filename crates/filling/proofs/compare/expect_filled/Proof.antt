@@ -23,23 +23,23 @@ returns-2 c =
 
 returns-3 : tie.Need-returns-3
 returns-3 c =
-    let word = c .before .before .before .before .before .before .before in
+    let word = c .before .before .before .before .before in
     let deep = word .before .before in
     let a = deep .before .before .before .before .before .args in
     let p = now (a .clause) in
     let r = now (a .rest) in
-    ends-bad p r (c .differ2 .ensures) (item-shut (plain (now (a .line)) (now (a .list))) p r (a .depth) (a .at) (a .pos) (deep .if1 .left) (plain-apart (now (a .line)) (now (a .list)) p (a .at)) (word .word .ensures .0) (c .before .before .before .before .before .before .if2 .left) (c .before .before .before .before .word2 .ensures .0) (c .before .before .word3 .ensures .0) (c .before .if3 .taken))
+    ends-bad p r (c .differ2 .ensures) (item-shut (plain (now (a .line)) (now (a .list))) p r (a .depth) (a .at) (a .pos) (deep .if1 .left) (plain-apart (now (a .line)) (now (a .list)) p (a .at)) (word .word .ensures .0) (c .before .before .before .before .if2 .left) (c .before .before .before .past .ensures) (c .before .before .past2 .ensures) (c .before .if3 .taken))
 
 returns-4 : tie.Need-returns-4
 returns-4 c =
-    let word = c .before .before .before .before .before .before .before in
+    let word = c .before .before .before .before .before in
     let deep = word .before .before in
     let a = deep .before .before .before .before .before .args in
     let p = now (a .clause) in
     let r = now (a .rest) in
-    c .expect-inside .ensures ∙ ap (endsOf p r) (sym (item-opens (plain (now (a .line)) (now (a .list))) p r (a .depth) (a .at) (a .pos) (deep .if1 .left) (plain-apart (now (a .line)) (now (a .list)) p (a .at)) (word .word .ensures .0) (c .before .before .before .before .before .before .if2 .left) (c .before .before .before .before .word2 .ensures .0) (c .before .before .word3 .ensures .0) (c .before .if3 .left)))
+    c .expect-inside .ensures ∙ ap (endsOf p r) (sym (item-opens (plain (now (a .line)) (now (a .list))) p r (a .depth) (a .at) (a .pos) (deep .if1 .left) (plain-apart (now (a .line)) (now (a .list)) p (a .at)) (word .word .ensures .0) (c .before .before .before .before .if2 .left) (c .before .before .before .past .ensures) (c .before .before .past2 .ensures) (c .before .if3 .left)))
 
 pub expect-filled-spec : {M : Type 1} → statement M
 expect-filled-spec =
     tie.close (tie.spec
-    (λ c κs. tt) returns (λ c. refl) (λ c κs. tt) (λ c κs. tt) returns-2 (λ c. refl) (λ c κs. tt) (λ c. refl) (λ c κs. tt) (λ c κs. tt) returns-3 (λ c. omega arith) (λ c κs. tt) returns-4)
+    (λ c κs. tt) returns (λ c. refl) (λ c κs. tt) (λ c κs. tt) returns-2 (λ c κs. tt) (λ c κs. tt) (λ c κs. tt) returns-3 (λ c. omega arith) (λ c κs. tt) returns-4)
