@@ -36,6 +36,7 @@ pub struct Ends {
 // The places past the ends.
 pub fn differ(clause: &[u8], other: &[u8]) -> Ends
     ensures { λ r. ⌜ r ≡ endsOf (now (clause .entry)) (now (other .entry)) bad ⌝ }
+    ensures { λ _. ⌜ (now (clause .exit) ≡ now (clause .entry)) × (now (other .exit) ≡ now (other .entry)) ⌝ }
 {
     Ends {
         at: clause.len() + 1,
@@ -46,6 +47,7 @@ pub fn differ(clause: &[u8], other: &[u8]) -> Ends
 // The two places, where both are places of their texts.
 pub fn reach(clause: &[u8], at: usize, other: &[u8], pos: usize) -> Ends
     ensures { λ r. ⌜ r ≡ endsAt (now (clause .entry)) at (now (other .entry)) pos ⌝ }
+    ensures { λ _. ⌜ (now (clause .exit) ≡ now (clause .entry)) × (now (other .exit) ≡ now (other .entry)) ⌝ }
 {
     if at > clause.len() {
         return differ(clause, other);
@@ -59,6 +61,7 @@ pub fn reach(clause: &[u8], at: usize, other: &[u8], pos: usize) -> Ends
 // The place past this byte, if it stands at `at`.
 pub fn past(text: &[u8], at: usize, byte: u8) -> usize
     ensures { λ r. ⌜ r ≡ endOf (now (text .entry)) (strip (byte ∷ []) (drop at (now (text .entry)))) ⌝ }
+    ensures { λ _. ⌜ now (text .exit) ≡ now (text .entry) ⌝ }
 {
     if at >= text.len() {
         return text.len() + 1;
@@ -96,6 +99,7 @@ pub fn expect_entry(
         ⌜ r ≡ endsOf (now (clause .entry)) (now (rest .entry))
         (matches (indexed (entryOf (now (line .entry)) (now (list .entry))) (drop at (now (clause .entry))))
         (drop pos (now (rest .entry)))) ⌝ }
+    ensures { λ _. ⌜ (now (clause .exit) ≡ now (clause .entry)) × (now (line .exit) ≡ now (line .entry)) × (now (rest .exit) ≡ now (rest .entry)) ⌝ }
 {
     let index = number(clause, at);
     let end = past(clause, index.end, b')');
@@ -175,6 +179,7 @@ pub fn expect_filled(
         ⌜ r ≡ endsOf (now (clause .entry)) (now (rest .entry))
         (matches (fillItem (plain (now (line .entry)) (now (list .entry))) depth (drop at (now (clause .entry))))
         (drop pos (now (rest .entry)))) ⌝ }
+    ensures { λ _. ⌜ (now (clause .exit) ≡ now (clause .entry)) × (now (line .exit) ≡ now (line .entry)) × (now (rest .exit) ≡ now (rest .entry)) ⌝ }
 {
     if depth == 0 {
         return differ(clause, rest);
@@ -219,6 +224,7 @@ pub fn stands(
         ⌜ r ≡ endsOf (now (clause .entry)) (now (rest .entry))
         (matches (filledBy (now (line .entry)) (now (list .entry)) depth (drop at (now (clause .entry))))
         (drop pos (now (rest .entry)))) ⌝ }
+    ensures { λ _. ⌜ (now (clause .exit) ≡ now (clause .entry)) × (now (line .exit) ≡ now (line .entry)) × (now (rest .exit) ≡ now (rest .entry)) ⌝ }
 {
     if list.len() == 0 {
         return expect_ground(clause, at, rest, pos);

@@ -9,11 +9,11 @@ use Rattle.agreement.proofs.agree.agree.Tie as tie
 
 returns : tie.Need-returns
 unfolding agreeAt standsAt
-returns c = (rw (c .before .before .if1 .taken) (c .within .ensures .0 ∙ ap (λ (e : Ends). within (now (c .before .before .before .before .before .before .before .before .before .args .b)) (e .pos)) (rw (c .before .before .before .item-depth .ensures) at (c .before .stands .ensures))), (refl, refl, refl))
+returns c = (rw (c .before .before .if1 .taken) (c .within .ensures .0 ∙ ap (λ (e : Ends). within (now (c .before .before .before .before .before .before .before .before .before .args .b)) (e .pos)) (rw (c .before .before .before .item-depth .ensures) at (c .before .stands .ensures .0))), (refl, refl, refl))
 
 returns-2 : tie.Need-returns-2
 unfolding agreeAt standsAt
-returns-2 c = (rw (ne-eqb _ _ (c .before .before .before .if1 .left), c .before .before .if2 .taken) (c .within2 .ensures .0 ∙ ap (λ (e : Ends). within (now (c .before .before .before .before .before .before .before .before .before .before .args .a)) (e .pos)) (rw (c .before .before .before .before .item-depth .ensures) at (c .before .stands2 .ensures))), (refl, refl, refl))
+returns-2 c = (rw (ne-eqb _ _ (c .before .before .before .if1 .left), c .before .before .if2 .taken) (c .within2 .ensures .0 ∙ ap (λ (e : Ends). within (now (c .before .before .before .before .before .before .before .before .before .before .args .a)) (e .pos)) (rw (c .before .before .before .before .item-depth .ensures) at (c .before .stands2 .ensures .0))), (refl, refl, refl))
 
 returns-3 : tie.Need-returns-3
 unfolding agreeAt standsAt

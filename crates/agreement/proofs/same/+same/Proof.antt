@@ -75,7 +75,7 @@ module _ (t : ℕ) (e : Deep t) where
   shorter = same-shortens f g (d - 1)
 
 returns : (t : ℕ) → same-lts.Need-returns (callees t) (same-at t) same.Post Inv-loop μ-loop
-returns t c = ends-bad _ _ (c .differ .ensures) (same-zero _ _ _ _ _ (c .before .if1 .taken))
+returns t c = ends-bad _ _ (c .differ .ensures .0) (same-zero _ _ _ _ _ (c .before .if1 .taken))
 
 returns-2 : (t : ℕ) → same-lts.Need-returns-2 (callees t) (same-at t) same.Post Inv-loop μ-loop
 unfolding plain
@@ -94,13 +94,13 @@ returns-4 : (t : ℕ) → same-lts.Need-returns-4 (callees t) (same-at t) same.P
 returns-4 t c =
     let word = c .before .before .before .before .before .before .before .before in
     let e = word .before .before in
-    ends-bad (p t e) (q t e) (c .differ2 .ensures) (no-second (f t e) (g t e) (p t e) (q t e) (d t e) (at t e) (pos t e) (e .if1 .left) (word .word .ensures .0) (c .before .before .before .before .before .before .before .if2 .left) (c .before .before .before .before .before .word2 .ensures .0) (c .before .before .before .before .if3 .left) (c .before .before .before .past .ensures) (c .before .before .past2 .ensures) (c .before .if4 .taken))
+    ends-bad (p t e) (q t e) (c .differ2 .ensures .0) (no-second (f t e) (g t e) (p t e) (q t e) (d t e) (at t e) (pos t e) (e .if1 .left) (word .word .ensures .0) (c .before .before .before .before .before .before .before .if2 .left) (c .before .before .before .before .before .word2 .ensures .0) (c .before .before .before .before .if3 .left) (c .before .before .before .past .ensures .0) (c .before .before .past2 .ensures .0) (c .before .if4 .taken))
 
 loop-holds : (t : ℕ) → same-lts.Need-loop-holds (callees t) (same-at t) same.Post Inv-loop μ-loop
 loop-holds t c =
     let word = c .before .before .before .before .before .before .before in
     let e = word .before .before in
-    loop-begins (sameItem (f t e) (g t e) (d t e - 1)) (p t e) (q t e) _ _ (opens (f t e) (g t e) (p t e) (q t e) (d t e) (at t e) (pos t e) (e .if1 .left) (word .word .ensures .0) (c .before .before .before .before .before .before .if2 .left) (c .before .before .before .before .word2 .ensures .0) (c .before .before .before .if3 .left) (c .before .before .past .ensures) (c .before .past2 .ensures) (c .if4 .left))
+    loop-begins (sameItem (f t e) (g t e) (d t e - 1)) (p t e) (q t e) _ _ (opens (f t e) (g t e) (p t e) (q t e) (d t e) (at t e) (pos t e) (e .if1 .left) (word .word .ensures .0) (c .before .before .before .before .before .before .if2 .left) (c .before .before .before .before .word2 .ensures .0) (c .before .before .before .if3 .left) (c .before .before .past .ensures .0) (c .before .past2 .ensures .0) (c .if4 .left))
 
 same-requires : (t : ℕ) → same-lts.Need-same-requires (callees t) (same-at t) same.Post Inv-loop μ-loop
 same-requires t c κs = let e = c .before .before .before .before .before .before .before .before .before .before .before .before .before in (lower (e .if1 .left) (e .before .before .before .before .before .before .pre .0), tt)
@@ -124,27 +124,27 @@ returns-5 t c =
     let n = c .before .before .before .before .before in
     let l = n .before in
     let e = l .before .before .before .before .before .before .before .before .before .before in
-    byte-other (p t e) (q t e) (l .loop .i) (l .loop .j) (l .loop .inv) (n .loop-test .taken) (c .before .before .before .if5 .left) (c .before .before .past3 .ensures) (c .before .if6 .taken) (c .differ3 .ensures)
+    byte-other (p t e) (q t e) (l .loop .i) (l .loop .j) (l .loop .inv) (n .loop-test .taken) (c .before .before .before .if5 .left) (c .before .before .past3 .ensures .0) (c .before .if6 .taken) (c .differ3 .ensures .0)
 
 returns-6 : (t : ℕ) → same-lts.Need-returns-6 (callees t) (same-at t) same.Post Inv-loop μ-loop
 returns-6 t c =
     let n = c .before .before .before .before .before in
     let l = n .before in
     let e = l .before .before .before .before .before .before .before .before .before .before in
-    byte-closes (p t e) (q t e) (l .loop .i) (l .loop .j) (l .loop .inv) (n .loop-test .taken) (c .before .before .before .if5 .left) (c .before .before .past3 .ensures) (c .before .if6 .left) (c .if7 .taken)
+    byte-closes (p t e) (q t e) (l .loop .i) (l .loop .j) (l .loop .inv) (n .loop-test .taken) (c .before .before .before .if5 .left) (c .before .before .past3 .ensures .0) (c .before .if6 .left) (c .if7 .taken)
 
 loop-again-2 : (t : ℕ) → same-lts.Need-loop-again-2 (callees t) (same-at t) same.Post Inv-loop μ-loop
 loop-again-2 t c =
     let n = c .before .before .before .before .before in
     let l = n .before in
     let e = l .before .before .before .before .before .before .before .before .before .before in
-    byte-again (p t e) (q t e) (l .loop .i) (l .loop .j) (l .loop .inv) (n .loop-test .taken) (c .before .before .before .if5 .left) (c .before .before .past3 .ensures) (c .before .if6 .left) (c .if7 .left)
+    byte-again (p t e) (q t e) (l .loop .i) (l .loop .j) (l .loop .inv) (n .loop-test .taken) (c .before .before .before .if5 .left) (c .before .before .past3 .ensures .0) (c .before .if6 .left) (c .if7 .left)
 
 returns-7 : (t : ℕ) → same-lts.Need-returns-7 (callees t) (same-at t) same.Post Inv-loop μ-loop
 returns-7 t c =
     let l = c .before .before in
     let e = l .before .before .before .before .before .before .before .before .before .before in
-    loop-ends (p t e) (q t e) (l .loop .i) (l .loop .j) (l .loop .inv) (c .before .loop-test .left) (c .differ4 .ensures)
+    loop-ends (p t e) (q t e) (l .loop .i) (l .loop .j) (l .loop .inv) (c .before .loop-test .left) (c .differ4 .ensures .0)
 
 pub +same-spec : {M : Type 1} → statement M
 +same-spec = close μ-same λ t. same-lts.spec (callees t) (same-at t) same.Post Inv-loop μ-loop

@@ -6,7 +6,7 @@ use Rattle.expected.proofs.claims.filled.Tie as tie
 
 returns : tie.Need-returns
 unfolding filledAt
-returns c = ap (λ (e : Ends). e .pos) (rw (c .before .item-depth .ensures) at (c .stands .ensures))
+returns c = ap (λ (e : Ends). e .pos) (rw (c .before .item-depth .ensures) at (c .stands .ensures .0))
 
 pub filled-spec : {M : Type 1} → statement M
 filled-spec = tie.close (tie.spec (λ c κs. tt) (λ c κs. tt) returns)

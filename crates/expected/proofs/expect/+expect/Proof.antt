@@ -81,30 +81,30 @@ module _ (t : ℕ) (e : Deep t) where
 returns : (t : ℕ) → expect-lts.Need-returns (callees t) (expect-at t) expect.Post Inv-loop μ-loop
 returns t c =
     let a = c .before .before .before .before .before .before .before .before .before .args in
-    ends-bad _ _ (c .differ .ensures) (item-shallow (replacing (now (a .line)) (now (a .first)) (length (now (a .a)) - a .w .hole) (now (a .b)) (a .w .from) (now (a .second))) (now (a .a)) (now (a .rest)) (a .w .depth) (a .w .at) (a .w .pos) (c .before .if1 .taken))
+    ends-bad _ _ (c .differ .ensures .0) (item-shallow (replacing (now (a .line)) (now (a .first)) (length (now (a .a)) - a .w .hole) (now (a .b)) (a .w .from) (now (a .second))) (now (a .a)) (now (a .rest)) (a .w .depth) (a .w .at) (a .w .pos) (c .before .if1 .taken))
 
 returns-2 : (t : ℕ) → expect-lts.Need-returns-2 (callees t) (expect-at t) expect.Post Inv-loop μ-loop
 returns-2 t c =
     let e = c .before .before .before .before .before .before in
-    c .reach .ensures ∙ hole-ends _ _ _ _ (p t e) (r t e) _ _ (d t e) (at t e) (pos t e) (e .if1 .left) (c .before .before .before .before .if2 .taken) (c .before .skip .ensures .0) (c .before .before .expect-filled .ensures)
+    c .reach .ensures .0 ∙ hole-ends _ _ _ _ (p t e) (r t e) _ _ (d t e) (at t e) (pos t e) (e .if1 .left) (c .before .before .before .before .if2 .taken) (c .before .skip .ensures .0) (c .before .before .expect-filled .ensures .0)
 
 returns-3 : (t : ℕ) → expect-lts.Need-returns-3 (callees t) (expect-at t) expect.Post Inv-loop μ-loop
 unfolding replacing
 returns-3 t c =
     let e = c .before .before .before .before .before .before in
-    c .expect-entry .ensures ∙ ap (endsOf (p t e) (r t e)) (sym (item-variable (f t e) (p t e) (r t e) (d t e) (at t e) (pos t e) (e .if1 .left) (apart t e (c .before .before .before .before .if2 .left)) (c .before .before .word .ensures .0) (c .before .if3 .taken)))
+    c .expect-entry .ensures .0 ∙ ap (endsOf (p t e) (r t e)) (sym (item-variable (f t e) (p t e) (r t e) (d t e) (at t e) (pos t e) (e .if1 .left) (apart t e (c .before .before .before .before .if2 .left)) (c .before .before .word .ensures .0) (c .before .if3 .taken)))
 
 returns-4 : (t : ℕ) → expect-lts.Need-returns-4 (callees t) (expect-at t) expect.Post Inv-loop μ-loop
 returns-4 t c =
     let word = c .before .before .before .before .before in
     let e = word .before .before .before .before in
-    ends-bad (p t e) (r t e) (c .differ2 .ensures) (item-shut (f t e) (p t e) (r t e) (d t e) (at t e) (pos t e) (e .if1 .left) (apart t e (word .before .before .if2 .left)) (word .word .ensures .0) (c .before .before .before .before .if3 .left) (c .before .before .before .past .ensures) (c .before .before .past2 .ensures) (c .before .if4 .taken))
+    ends-bad (p t e) (r t e) (c .differ2 .ensures .0) (item-shut (f t e) (p t e) (r t e) (d t e) (at t e) (pos t e) (e .if1 .left) (apart t e (word .before .before .if2 .left)) (word .word .ensures .0) (c .before .before .before .before .if3 .left) (c .before .before .before .past .ensures .0) (c .before .before .past2 .ensures .0) (c .before .if4 .taken))
 
 loop-holds : (t : ℕ) → expect-lts.Need-loop-holds (callees t) (expect-at t) expect.Post Inv-loop μ-loop
 loop-holds t c =
     let word = c .before .before .before .before in
     let e = word .before .before .before .before in
-    fill-begins (fillItem (f t e) (d t e - 1)) (p t e) (r t e) _ _ (item-opens (f t e) (p t e) (r t e) (d t e) (at t e) (pos t e) (e .if1 .left) (apart t e (word .before .before .if2 .left)) (word .word .ensures .0) (c .before .before .before .if3 .left) (c .before .before .past .ensures) (c .before .past2 .ensures) (c .if4 .left))
+    fill-begins (fillItem (f t e) (d t e - 1)) (p t e) (r t e) _ _ (item-opens (f t e) (p t e) (r t e) (d t e) (at t e) (pos t e) (e .if1 .left) (apart t e (word .before .before .if2 .left)) (word .word .ensures .0) (c .before .before .before .if3 .left) (c .before .before .past .ensures .0) (c .before .past2 .ensures .0) (c .if4 .left))
 
 expect-requires : (t : ℕ) → expect-lts.Need-expect-requires (callees t) (expect-at t) expect.Post Inv-loop μ-loop
 expect-requires t c κs = let e = c .before .before .before .before .before .before .before .before .before .before .before .before .before in (lower (e .if1 .left) (e .before .before .before .before .before .before .before .before .pre .0), tt)
@@ -128,27 +128,27 @@ returns-5 t c =
     let n = c .before .before .before .before .before in
     let l = n .before in
     let e = l .before .before .before .before .before .before .before .before .before in
-    byte-other (p t e) (r t e) (l .loop .i) (l .loop .j) (l .loop .inv) (n .loop-test .taken) (c .before .before .before .if5 .left) (c .before .before .past3 .ensures) (c .before .if6 .taken) (c .differ3 .ensures)
+    byte-other (p t e) (r t e) (l .loop .i) (l .loop .j) (l .loop .inv) (n .loop-test .taken) (c .before .before .before .if5 .left) (c .before .before .past3 .ensures .0) (c .before .if6 .taken) (c .differ3 .ensures .0)
 
 returns-6 : (t : ℕ) → expect-lts.Need-returns-6 (callees t) (expect-at t) expect.Post Inv-loop μ-loop
 returns-6 t c =
     let n = c .before .before .before .before .before in
     let l = n .before in
     let e = l .before .before .before .before .before .before .before .before .before in
-    byte-closes (p t e) (r t e) (l .loop .i) (l .loop .j) (l .loop .inv) (n .loop-test .taken) (c .before .before .before .if5 .left) (c .before .before .past3 .ensures) (c .before .if6 .left) (c .if7 .taken)
+    byte-closes (p t e) (r t e) (l .loop .i) (l .loop .j) (l .loop .inv) (n .loop-test .taken) (c .before .before .before .if5 .left) (c .before .before .past3 .ensures .0) (c .before .if6 .left) (c .if7 .taken)
 
 loop-again-2 : (t : ℕ) → expect-lts.Need-loop-again-2 (callees t) (expect-at t) expect.Post Inv-loop μ-loop
 loop-again-2 t c =
     let n = c .before .before .before .before .before in
     let l = n .before in
     let e = l .before .before .before .before .before .before .before .before .before in
-    byte-again (p t e) (r t e) (l .loop .i) (l .loop .j) (l .loop .inv) (n .loop-test .taken) (c .before .before .before .if5 .left) (c .before .before .past3 .ensures) (c .before .if6 .left) (c .if7 .left)
+    byte-again (p t e) (r t e) (l .loop .i) (l .loop .j) (l .loop .inv) (n .loop-test .taken) (c .before .before .before .if5 .left) (c .before .before .past3 .ensures .0) (c .before .if6 .left) (c .if7 .left)
 
 returns-7 : (t : ℕ) → expect-lts.Need-returns-7 (callees t) (expect-at t) expect.Post Inv-loop μ-loop
 returns-7 t c =
     let l = c .before .before in
     let e = l .before .before .before .before .before .before .before .before .before in
-    loop-ends (p t e) (r t e) (l .loop .i) (l .loop .j) (l .loop .inv) (c .before .loop-test .left) (c .differ4 .ensures)
+    loop-ends (p t e) (r t e) (l .loop .i) (l .loop .j) (l .loop .inv) (c .before .loop-test .left) (c .differ4 .ensures .0)
 
 pub +expect-spec : {M : Type 1} → statement M
 +expect-spec = close μ-expect λ t. expect-lts.spec (callees t) (expect-at t) expect.Post Inv-loop μ-loop

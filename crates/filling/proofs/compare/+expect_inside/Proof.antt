@@ -83,7 +83,7 @@ loop-holds t c = let a = c .before .before .before .before .args in (fill-begins
 returns : (t : ℕ) → expect-inside-lts.Need-returns (callees t) (expect-inside-at t) expect-inside.Post Inv-loop μ-loop
 returns t c =
     let n = c .before .before .before .before in
-    part-bad (p t n) (r t n) (i t n) (j t n) (n .before .loop .inv .0) (n .loop-test .taken) (c .before .before .if1 .taken) (item-shallow (f t n) (p t n) (r t n) (d t n) (i t n) (j t n) (c .before .if2 .taken)) (c .differ .ensures)
+    part-bad (p t n) (r t n) (i t n) (j t n) (n .before .loop .inv .0) (n .loop-test .taken) (c .before .before .if1 .taken) (item-shallow (f t n) (p t n) (r t n) (d t n) (i t n) (j t n) (c .before .if2 .taken)) (c .differ .ensures .0)
 
 -- "(v " is a local of the loop.
 named : (t : ℕ) (n : Turn t) (w : List ℕ) {k : ℕ} → k ≡ endOf (p t n) (strip w (drop (i t n) (p t n))) → w ≡ variable → k ≡ endOf (p t n) (strip variable (drop (i t n) (p t n)))
@@ -112,21 +112,21 @@ unfolding plain
 loop-less t c =
     let here = c .before .before .before .before .before in
     let n = here .before .before in
-    part-less (p t n) (r t n) (i t n) (j t n) (n .before .loop .inv .0) (n .loop-test .taken) (here .if1 .taken) (shorter t n) (as-variable t n (here .if1 .taken) (c .before .before .before .before .if2 .left) (named t n _ (c .before .before .word .ensures .0) (n .before .loop .inv .1)) (c .before .if3 .taken) (c .expect-entry .ensures))
+    part-less (p t n) (r t n) (i t n) (j t n) (n .before .loop .inv .0) (n .loop-test .taken) (here .if1 .taken) (shorter t n) (as-variable t n (here .if1 .taken) (c .before .before .before .before .if2 .left) (named t n _ (c .before .before .word .ensures .0) (n .before .loop .inv .1)) (c .before .if3 .taken) (c .expect-entry .ensures .0))
 
 loop-again : (t : ℕ) → expect-inside-lts.Need-loop-again (callees t) (expect-inside-at t) expect-inside.Post Inv-loop μ-loop
 unfolding plain
 loop-again t c =
     let here = c .before .before .before .before .before in
     let n = here .before .before in
-    (part-again (p t n) (r t n) (i t n) (j t n) (n .before .loop .inv .0) (n .loop-test .taken) (here .if1 .taken) (shorter t n) (as-variable t n (here .if1 .taken) (c .before .before .before .before .if2 .left) (named t n _ (c .before .before .word .ensures .0) (n .before .loop .inv .1)) (c .before .if3 .taken) (c .expect-entry .ensures)), n .before .loop .inv .1)
+    (part-again (p t n) (r t n) (i t n) (j t n) (n .before .loop .inv .0) (n .loop-test .taken) (here .if1 .taken) (shorter t n) (as-variable t n (here .if1 .taken) (c .before .before .before .before .if2 .left) (named t n _ (c .before .before .word .ensures .0) (n .before .loop .inv .1)) (c .before .if3 .taken) (c .expect-entry .ensures .0)), n .before .loop .inv .1)
 
 returns-2 : (t : ℕ) → expect-inside-lts.Need-returns-2 (callees t) (expect-inside-at t) expect-inside.Post Inv-loop μ-loop
 returns-2 t c =
     let word = c .before .before .before .before in
     let here = word .before .before .before in
     let n = here .before .before in
-    part-bad (p t n) (r t n) (i t n) (j t n) (n .before .loop .inv .0) (n .loop-test .taken) (here .if1 .taken) (shut t n (here .if1 .taken) (word .before .before .if2 .left) (named t n _ (word .word .ensures .0) (n .before .loop .inv .1)) (c .before .before .before .if3 .left) (c .before .before .past .ensures) (c .before .if4 .taken)) (c .differ2 .ensures)
+    part-bad (p t n) (r t n) (i t n) (j t n) (n .before .loop .inv .0) (n .loop-test .taken) (here .if1 .taken) (shut t n (here .if1 .taken) (word .before .before .if2 .left) (named t n _ (word .word .ensures .0) (n .before .loop .inv .1)) (c .before .before .before .if3 .left) (c .before .before .past .ensures .0) (c .before .if4 .taken)) (c .differ2 .ensures .0)
 
 expect-inside-requires : (t : ℕ) → expect-inside-lts.Need-expect-inside-requires (callees t) (expect-inside-at t) expect-inside.Post Inv-loop μ-loop
 expect-inside-requires t c κs = (lower (c .before .before .before .before .before .if2 .left) (c .before .before .before .before .before .before .before .before .before .before .before .before .before .before .pre .0), tt)
@@ -136,38 +136,38 @@ loop-less-2 t c =
     let word = c .before .before .before .before in
     let here = word .before .before .before in
     let n = here .before .before in
-    part-less (p t n) (r t n) (i t n) (j t n) (n .before .loop .inv .0) (n .loop-test .taken) (here .if1 .taken) (shorter t n) (as-opened t n (here .if1 .taken) (word .before .before .if2 .left) (named t n _ (word .word .ensures .0) (n .before .loop .inv .1)) (c .before .before .before .if3 .left) (c .before .before .past .ensures) (c .before .if4 .left) (c .expect-inside .ensures))
+    part-less (p t n) (r t n) (i t n) (j t n) (n .before .loop .inv .0) (n .loop-test .taken) (here .if1 .taken) (shorter t n) (as-opened t n (here .if1 .taken) (word .before .before .if2 .left) (named t n _ (word .word .ensures .0) (n .before .loop .inv .1)) (c .before .before .before .if3 .left) (c .before .before .past .ensures .0) (c .before .if4 .left) (c .expect-inside .ensures))
 
 loop-again-2 : (t : ℕ) → expect-inside-lts.Need-loop-again-2 (callees t) (expect-inside-at t) expect-inside.Post Inv-loop μ-loop
 loop-again-2 t c =
     let word = c .before .before .before .before in
     let here = word .before .before .before in
     let n = here .before .before in
-    (part-again (p t n) (r t n) (i t n) (j t n) (n .before .loop .inv .0) (n .loop-test .taken) (here .if1 .taken) (shorter t n) (as-opened t n (here .if1 .taken) (word .before .before .if2 .left) (named t n _ (word .word .ensures .0) (n .before .loop .inv .1)) (c .before .before .before .if3 .left) (c .before .before .past .ensures) (c .before .if4 .left) (c .expect-inside .ensures)), n .before .loop .inv .1)
+    (part-again (p t n) (r t n) (i t n) (j t n) (n .before .loop .inv .0) (n .loop-test .taken) (here .if1 .taken) (shorter t n) (as-opened t n (here .if1 .taken) (word .before .before .if2 .left) (named t n _ (word .word .ensures .0) (n .before .loop .inv .1)) (c .before .before .before .if3 .left) (c .before .before .past .ensures .0) (c .before .if4 .left) (c .expect-inside .ensures)), n .before .loop .inv .1)
 
 returns-3 : (t : ℕ) → expect-inside-lts.Need-returns-3 (callees t) (expect-inside-at t) expect-inside.Post Inv-loop μ-loop
 returns-3 t c =
     let passed = c .before .before in
     let n = passed .before .before .before in
-    byte-other (p t n) (r t n) (i t n) (j t n) (n .before .loop .inv .0) (n .loop-test .taken) (passed .before .if1 .left) (passed .past2 .ensures) (c .before .if5 .taken) (c .differ3 .ensures)
+    byte-other (p t n) (r t n) (i t n) (j t n) (n .before .loop .inv .0) (n .loop-test .taken) (passed .before .if1 .left) (passed .past2 .ensures .0) (c .before .if5 .taken) (c .differ3 .ensures .0)
 
 returns-4 : (t : ℕ) → expect-inside-lts.Need-returns-4 (callees t) (expect-inside-at t) expect-inside.Post Inv-loop μ-loop
 returns-4 t c =
     let passed = c .before .before in
     let n = passed .before .before .before in
-    byte-closes (p t n) (r t n) (i t n) (j t n) (n .before .loop .inv .0) (n .loop-test .taken) (passed .before .if1 .left) (passed .past2 .ensures) (c .before .if5 .left) (c .if6 .taken)
+    byte-closes (p t n) (r t n) (i t n) (j t n) (n .before .loop .inv .0) (n .loop-test .taken) (passed .before .if1 .left) (passed .past2 .ensures .0) (c .before .if5 .left) (c .if6 .taken)
 
 loop-again-3 : (t : ℕ) → expect-inside-lts.Need-loop-again-3 (callees t) (expect-inside-at t) expect-inside.Post Inv-loop μ-loop
 loop-again-3 t c =
     let passed = c .before .before in
     let n = passed .before .before .before in
-    (byte-again (p t n) (r t n) (i t n) (j t n) (n .before .loop .inv .0) (n .loop-test .taken) (passed .before .if1 .left) (passed .past2 .ensures) (c .before .if5 .left) (c .if6 .left), n .before .loop .inv .1)
+    (byte-again (p t n) (r t n) (i t n) (j t n) (n .before .loop .inv .0) (n .loop-test .taken) (passed .before .if1 .left) (passed .past2 .ensures .0) (c .before .if5 .left) (c .if6 .left), n .before .loop .inv .1)
 
 returns-5 : (t : ℕ) → expect-inside-lts.Need-returns-5 (callees t) (expect-inside-at t) expect-inside.Post Inv-loop μ-loop
 returns-5 t c =
     let l = c .before .before in
     let a = l .before .before .before .before .before .args in
-    loop-ends (now (a .clause)) (now (a .rest)) (l .loop .i) (l .loop .j) (l .loop .inv .0) (c .before .loop-test .left) (c .differ4 .ensures)
+    loop-ends (now (a .clause)) (now (a .rest)) (l .loop .i) (l .loop .j) (l .loop .inv .0) (c .before .loop-test .left) (c .differ4 .ensures .0)
 
 pub +expect-inside-spec : {M : Type 1} → statement M
 +expect-inside-spec = close μ-expect-inside λ t. expect-inside-lts.spec (callees t) (expect-inside-at t) expect-inside.Post Inv-loop μ-loop

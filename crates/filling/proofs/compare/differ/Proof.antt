@@ -6,7 +6,7 @@ use Rattle.filling.proofs.compare.differ.Tie as tie
 
 returns : tie.Need-returns
 unfolding endsOf
-returns c = refl
+returns c = (refl, (refl, refl))
 
 pub differ-spec : {M : Type 1} → statement M
 differ-spec =

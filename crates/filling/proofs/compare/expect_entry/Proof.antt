@@ -11,24 +11,24 @@ returns : tie.Need-returns
 returns c =
     let a = c .before .before .before .before .before .before .before .before .args in
     let n = c .before .before .before .number in
-    let x = find-index (entryOf (now (a .line)) (now (a .list))) (now (a .clause)) (a .at) (n .ensures .0) (c .before .before .past .ensures) in
-    ends-bad (now (a .clause)) (now (a .rest)) (c .differ .ensures) (entry-lost (now (a .rest)) (a .pos) x (omega arith))
+    let x = find-index (entryOf (now (a .line)) (now (a .list))) (now (a .clause)) (a .at) (n .ensures .0) (c .before .before .past .ensures .0) in
+    (ends-bad (now (a .clause)) (now (a .rest)) (c .differ .ensures .0) (entry-lost (now (a .rest)) (a .pos) x (omega arith)), (refl, refl, refl))
 
 returns-2 : tie.Need-returns-2
 returns-2 c =
     let a = c .before .before .before .before .before .before .before .before .before .before .before .args in
     let n = c .before .before .before .before .before .before .number in
-    let x = find-index (entryOf (now (a .line)) (now (a .list))) (now (a .clause)) (a .at) (n .ensures .0) (c .before .before .before .before .before .past .ensures) in
+    let x = find-index (entryOf (now (a .line)) (now (a .list))) (now (a .clause)) (a .at) (n .ensures .0) (c .before .before .before .before .before .past .ensures .0) in
     let o = rw (c .before .before .before .entry .ensures .0) at (c .before .before .bytes-past .ensures) in
-    ends-bad (now (a .clause)) (now (a .rest)) (c .differ2 .ensures) (entry-other (now (a .rest)) (a .pos) x (omega arith) (omega (arith, o)))
+    (ends-bad (now (a .clause)) (now (a .rest)) (c .differ2 .ensures .0) (entry-other (now (a .rest)) (a .pos) x (omega arith) (omega (arith, o))), (refl, refl, refl))
 
 returns-3 : tie.Need-returns-3
 returns-3 c =
     let a = c .before .before .before .before .before .before .before .before .before .before .args in
     let n = c .before .before .before .before .before .number in
-    let x = find-index (entryOf (now (a .line)) (now (a .list))) (now (a .clause)) (a .at) (n .ensures .0) (c .before .before .before .before .past .ensures) in
+    let x = find-index (entryOf (now (a .line)) (now (a .list))) (now (a .clause)) (a .at) (n .ensures .0) (c .before .before .before .before .past .ensures .0) in
     let o = rw (c .before .before .entry .ensures .0) at (c .before .bytes-past .ensures) in
-    ends-at (now (a .clause)) (now (a .rest)) (c .before .before .before .before .past .result) (c .before .bytes-past .result) (omega arith) (omega arith) (rw o (entry-same (now (a .rest)) (a .pos) x (omega arith) (omega (arith, o))))
+    (ends-at (now (a .clause)) (now (a .rest)) (c .before .before .before .before .past .result) (c .before .bytes-past .result) (omega arith) (omega arith) (rw o (entry-same (now (a .rest)) (a .pos) x (omega arith) (omega (arith, o)))), (refl, refl, refl))
 
 pub expect-entry-spec : {M : Type 1} → statement M
 expect-entry-spec =

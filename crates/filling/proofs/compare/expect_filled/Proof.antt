@@ -10,7 +10,7 @@ use Rattle.filling.proofs.compare.expect_filled.Tie as tie
 returns : tie.Need-returns
 returns c =
     let a = c .before .before .before .before .before .before .args in
-    ends-bad (now (a .clause)) (now (a .rest)) (c .differ .ensures) (item-shallow (plain (now (a .line)) (now (a .list))) (now (a .clause)) (now (a .rest)) (a .depth) (a .at) (a .pos) (c .before .if1 .taken))
+    (ends-bad (now (a .clause)) (now (a .rest)) (c .differ .ensures .0) (item-shallow (plain (now (a .line)) (now (a .list))) (now (a .clause)) (now (a .rest)) (a .depth) (a .at) (a .pos) (c .before .if1 .taken)), (refl, refl, refl))
 
 returns-2 : tie.Need-returns-2
 unfolding plain
@@ -19,7 +19,7 @@ returns-2 c =
     let a = deep .before .before .before .before .before .args in
     let p = now (a .clause) in
     let r = now (a .rest) in
-    c .expect-entry .ensures ∙ ap (endsOf p r) (sym (item-variable (plain (now (a .line)) (now (a .list))) p r (a .depth) (a .at) (a .pos) (deep .if1 .left) (plain-apart (now (a .line)) (now (a .list)) p (a .at)) (c .before .before .word .ensures .0) (c .before .if2 .taken)))
+    (c .expect-entry .ensures .0 ∙ ap (endsOf p r) (sym (item-variable (plain (now (a .line)) (now (a .list))) p r (a .depth) (a .at) (a .pos) (deep .if1 .left) (plain-apart (now (a .line)) (now (a .list)) p (a .at)) (c .before .before .word .ensures .0) (c .before .if2 .taken))), (refl, refl, refl))
 
 returns-3 : tie.Need-returns-3
 returns-3 c =
@@ -28,7 +28,7 @@ returns-3 c =
     let a = deep .before .before .before .before .before .args in
     let p = now (a .clause) in
     let r = now (a .rest) in
-    ends-bad p r (c .differ2 .ensures) (item-shut (plain (now (a .line)) (now (a .list))) p r (a .depth) (a .at) (a .pos) (deep .if1 .left) (plain-apart (now (a .line)) (now (a .list)) p (a .at)) (word .word .ensures .0) (c .before .before .before .before .if2 .left) (c .before .before .before .past .ensures) (c .before .before .past2 .ensures) (c .before .if3 .taken))
+    (ends-bad p r (c .differ2 .ensures .0) (item-shut (plain (now (a .line)) (now (a .list))) p r (a .depth) (a .at) (a .pos) (deep .if1 .left) (plain-apart (now (a .line)) (now (a .list)) p (a .at)) (word .word .ensures .0) (c .before .before .before .before .if2 .left) (c .before .before .before .past .ensures .0) (c .before .before .past2 .ensures .0) (c .before .if3 .taken)), (refl, refl, refl))
 
 returns-4 : tie.Need-returns-4
 returns-4 c =
@@ -37,7 +37,7 @@ returns-4 c =
     let a = deep .before .before .before .before .before .args in
     let p = now (a .clause) in
     let r = now (a .rest) in
-    c .expect-inside .ensures ∙ ap (endsOf p r) (sym (item-opens (plain (now (a .line)) (now (a .list))) p r (a .depth) (a .at) (a .pos) (deep .if1 .left) (plain-apart (now (a .line)) (now (a .list)) p (a .at)) (word .word .ensures .0) (c .before .before .before .before .if2 .left) (c .before .before .before .past .ensures) (c .before .before .past2 .ensures) (c .before .if3 .left)))
+    (c .expect-inside .ensures ∙ ap (endsOf p r) (sym (item-opens (plain (now (a .line)) (now (a .list))) p r (a .depth) (a .at) (a .pos) (deep .if1 .left) (plain-apart (now (a .line)) (now (a .list)) p (a .at)) (word .word .ensures .0) (c .before .before .before .before .if2 .left) (c .before .before .before .past .ensures .0) (c .before .before .past2 .ensures .0) (c .before .if3 .left))), (refl, refl, refl))
 
 pub expect-filled-spec : {M : Type 1} → statement M
 expect-filled-spec =

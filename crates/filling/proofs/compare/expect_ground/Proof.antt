@@ -10,12 +10,12 @@ use Rattle.filling.proofs.compare.expect_ground.Tie as tie
 returns : tie.Need-returns
 returns c =
     let a = c .before .before .before .before .before .args in
-    ends-bad (now (a .clause)) (now (a .rest)) (c .differ .ensures) (item-open (now (a .clause)) (a .at) (c .before .before .skip .ensures .0) (omega arith) _)
+    ends-bad (now (a .clause)) (now (a .rest)) (c .differ .ensures .0) (item-open (now (a .clause)) (a .at) (c .before .before .skip .ensures .0) (omega arith) _)
 
 returns-2 : tie.Need-returns-2
 returns-2 c =
     let a = c .before .before .before .before .before .before .before .args in
-    c .reach .ensures ∙ item-ends (now (a .clause)) (a .at) (c .before .before .before .before .skip .ensures .0) (omega arith) (now (a .rest)) (a .pos) (c .before .prefix .ensures .0)
+    c .reach .ensures .0 ∙ item-ends (now (a .clause)) (a .at) (c .before .before .before .before .skip .ensures .0) (omega arith) (now (a .rest)) (a .pos) (c .before .prefix .ensures .0)
 
 begins : tie.Need-sub-prefix
 begins c =
