@@ -1,7 +1,6 @@
 -- `capi::second_number` meets its contract, variant by variant.
 -- Assumes nothing.
 use mathlib.Core.Path.{sym, ap}
-use borrow.Author.Needs.{needs}
 use Rattle.meaning.specs.Means.{numbers}
 use Rattle.capi.specs.Numbered.{secondNumber}
 use Rattle.capi.proofs.second_number.Statement.{statement}
@@ -22,4 +21,4 @@ returns-3 c = ap secondNumber (sym (c .before .v2 .given .1))
 pub second-number-spec : {M : Type 1} → statement M
 second-number-spec =
     tie.close (tie.spec
-    (λ c. search needs) (λ c. search needs) (λ c. search needs) returns returns-2 returns-3)
+    (λ c. c .match .keys1) (λ c. c .match .keys2) (λ c. c .match .keys3) returns returns-2 returns-3)

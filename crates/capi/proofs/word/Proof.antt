@@ -1,7 +1,6 @@
 -- `capi::word` meets its contract, variant by variant.
 -- Assumes nothing.
 use mathlib.Core.Path.{sym, ap}
-use borrow.Author.Needs.{needs}
 use Rattle.capi.specs.Numbered.{wordNumber}
 use Rattle.capi.proofs.word.Statement.{statement}
 use Rattle.capi.proofs.word.Tie as tie
@@ -21,4 +20,4 @@ returns-3 c = ap wordNumber (sym (c .enum-told3 .given .1))
 pub word-spec : {M : Type 1} → statement M
 word-spec =
     tie.close (tie.spec
-    (λ c. search needs) (λ c. search needs) (λ c. search needs) returns returns-2 returns-3)
+    (λ c. c .match .keys1) (λ c. c .match .keys2) (λ c. c .match .keys3) returns returns-2 returns-3)

@@ -1,4 +1,4 @@
-use borrow.Author.Needs.{needs}
+use mathlib.Core.Path.{refl}
 use native.Mathlib.Omega.{arith}
 use Rattle.meaning.specs.Means.{verdictWord, numbers}
 use Rattle.print.specs.Line.{verdictLine}
@@ -26,4 +26,4 @@ returns-3 c =
 pub put-verdict-spec : {M : Type 1} → statement M
 put-verdict-spec =
     tie.close (tie.spec
-    (λ c. search needs) (λ c. search needs) (λ c κs. tt) (λ c. search needs) (λ c. search needs) (λ c κs. tt) (λ c. search needs) (λ c. search needs) (λ c κs. tt) (λ c. search needs) returns (λ c. search needs) returns-2 (λ c. search needs) returns-3)
+    (λ c. c .match .keys1) (λ c. refl) (λ c κs. tt) (λ c. c .match .keys2) (λ c. refl) (λ c κs. tt) (λ c. c .match .keys3) (λ c. refl) (λ c κs. tt) (λ c. omega arith) returns (λ c. omega arith) returns-2 (λ c. omega arith) returns-3)

@@ -1,5 +1,4 @@
 -- `step::failing` meets its contract.
-use borrow.Author.Needs.{needs}
 use borrow.Author.Tests.{eq-eqb, ne-eqb}
 use Prim.Native.Nat.{ℕ}
 use mathlib.Core.List.{List}
@@ -48,5 +47,5 @@ returns-5 c =
 pub failing-spec : {M : Type 1} → statement M
 failing-spec =
     tie.close (tie.spec
-    returns (λ c. search needs) (λ c. search needs) (λ c. search needs) (λ c. search needs) (λ c κs. tt) (λ c κs. tt)
+    returns (λ c. c .match .keys1) (λ c. c .match .keys2) (λ c. c .match .keys3) (λ c. c .match .keys4) (λ c κs. tt) (λ c κs. tt)
     returns-2 returns-3 returns-4 returns-5)

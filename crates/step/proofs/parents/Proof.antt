@@ -1,5 +1,5 @@
 -- `step::parents` meets its contract.
-use borrow.Author.Needs.{needs}
+use native.Mathlib.Omega.{arith}
 use Rattle.step.specs.Step.{parentsAt}
 use Rattle.step.proofs.parents.Statement.{statement}
 use Rattle.step.proofs.parents.Tie as tie
@@ -23,5 +23,5 @@ returns-4 c = rw (c .before .before .l .given .1, c .used-parents .ensures)
 pub parents-spec : {M : Type 1} → statement M
 parents-spec =
     tie.close (tie.spec
-    (λ c. search needs) (λ c. search needs) (λ c. search needs) (λ c. search needs) (λ c. search needs) (λ c κs. tt)
+    (λ c. omega arith) (λ c. c .match .keys1) (λ c. c .match .keys2) (λ c. c .match .keys3) (λ c. c .match .keys4) (λ c κs. tt)
     returns returns-2 returns-3 returns-4)

@@ -2,7 +2,6 @@ use mathlib.Core.Path.{_≡_, refl}
 use Rattle.clauses.proofs.shapes.link.Statement.{statement}
 use Rattle.clauses.proofs.shapes.link.Tie as tie
 use Rattle.logic.specs.declared.Link.the-variants.{Eq, Mem, Sub}
-use borrow.Author.Needs.{needs}
 
 returns : tie.Need-returns
 returns c = (let e : c .before .before .before .before .before .args .kind ≡ Eq = c .before .before .enum-told .given .1 in rw e (c .first .ensures), refl)
@@ -16,5 +15,5 @@ returns-3 c = (let e : c .before .before .before .before .before .args .kind ≡
 pub link-spec : {M : Type 1} → statement M
 link-spec =
     tie.close (tie.spec
-    (λ c. search needs) (λ c. refl) (λ c κs. tt) (λ c. search needs) (λ c. refl) (λ c κs. tt) (λ c. search needs)
+    (λ c. c .match .keys1) (λ c. refl) (λ c κs. tt) (λ c. c .match .keys2) (λ c. refl) (λ c κs. tt) (λ c. c .match .keys3)
     (λ c. refl) (λ c κs. tt) returns returns-2 returns-3)
