@@ -4,7 +4,7 @@
 //! Every function takes the bytes it has read off the front of the cursor.
 //! `None` means that the line isn't a form.
 
-use crate::syntax::{Arrow, Clause, Head, Line, Node, Rule, Step, Substitution};
+use crate::syntax::{Arrow, Clause, Head, Line, Node, Part, Rule, Step, Substitution};
 use crate::MAX_DEPTH;
 
 /// Reads a line without its line end. T1: "is one form, of nested brackets".
@@ -134,7 +134,7 @@ impl<'a> Cursor<'a> {
             b"mem" => self.spaced_terms(nodes, 2, Head::Membership),
             b"sub" => self.spaced_terms(nodes, 2, Head::Subclass),
             b"obj" => self.spaced_terms(nodes, 1, Head::Object),
-            word => self.method(nodes, arrow(word)?),
+            word => self.arrow_atom(nodes, arrow(word)?),
         }?;
         self.expect(b")")?;
         Some(head)
@@ -151,10 +151,15 @@ impl<'a> Cursor<'a> {
 
     /// T13: "the object O, the method M, the arguments T ..., perhaps none at
     /// all, and the result R", from the space before the object on.
-    fn method(&mut self, nodes: &mut Vec<Node>, arrow: Arrow) -> Option<Head> {
+    fn arrow_atom(&mut self, nodes: &mut Vec<Node>, arrow: Arrow) -> Option<Head> {
         self.expect(b" ")?;
         self.term(nodes, MAX_DEPTH)?;
         self.expect(b" ")?;
+        Some(Head::Arrow(self.part(nodes, arrow)?))
+    }
+
+    /// A part, from its method on.
+    fn part(&mut self, nodes: &mut Vec<Node>, arrow: Arrow) -> Option<Part> {
         self.term(nodes, MAX_DEPTH)?;
         self.expect(b" (")?;
         let mut arguments: u16 = 0;
@@ -173,7 +178,7 @@ impl<'a> Cursor<'a> {
         if has_result {
             self.term(nodes, MAX_DEPTH)?;
         }
-        Some(Head::Method {
+        Some(Part {
             arrow,
             arguments,
             has_result,

@@ -122,7 +122,7 @@ impl Reading {
 /// T18: "arguments of a method", "literals of a clause", "a variable's number".
 fn clause_within_limits(clause: &Clause) -> bool {
     let arguments_fit = |head| match head {
-        Head::Method { arguments, .. } => arguments <= MAX_ARGUMENTS,
+        Head::Arrow(part) => part.arguments <= MAX_ARGUMENTS,
         _ => true,
     };
     clause.len() <= MAX_LITERALS

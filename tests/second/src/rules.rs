@@ -6,7 +6,7 @@
 use std::ops::Range;
 
 use crate::descent::Parents;
-use crate::syntax::{Clause, Head, Literal, Node, Rule, Step, Substitution};
+use crate::syntax::{first_terms_len, Clause, Head, Literal, Node, Part, Rule, Step, Substitution};
 use crate::Check;
 
 /// Runs checks 7 to 11 on a step; `clauses` are those before it, so that
@@ -179,13 +179,12 @@ fn conclude<'a>(
         Rule::Scalarity => {
             let (first, second) = (a.premise(i)?, b.premise(j)?);
             let (one, other) = (first.scalar()?, second.scalar()?);
-            Check::Agreement.require(
-                first.literal.head == second.literal.head && one.call.equals(other.call),
-            )?;
+            Check::Agreement
+                .require(one.object.equals(other.object) && one.said.is_alike(other.said))?;
             Some(FilledLiteral::pair(
                 Head::Equality,
-                one.result,
-                other.result,
+                one.said.result(),
+                other.said.result(),
             ))
         }
         // R19, eli: "A only; - obj(P) at I". R23 drops it.
@@ -274,6 +273,53 @@ impl<'a> Filled<'a> {
     }
 }
 
+/// A part of an arrow atom, its terms filled.
+#[derive(Clone, Copy)]
+struct FilledPart<'a> {
+    part: Part,
+    terms: Filled<'a>,
+}
+
+impl<'a> FilledPart<'a> {
+    /// The terms before the result, and the result, if it is a term.
+    fn split(self) -> (Filled<'a>, Filled<'a>) {
+        let Filled { nodes, list } = self.terms;
+        let (call, result) = nodes.split_at(first_terms_len(nodes, self.part.call_terms()));
+        let filled = |nodes| Filled { nodes, list };
+        (filled(call), filled(result))
+    }
+
+    /// Method and arguments.
+    fn call(self) -> Filled<'a> {
+        self.split().0
+    }
+
+    fn result(self) -> Filled<'a> {
+        self.split().1
+    }
+
+    /// R18, but for the object: "same arrow, argument count, object, method,
+    /// arguments".
+    fn is_alike(self, other: FilledPart<'_>) -> bool {
+        self.part == other.part && self.call().equals(other.call())
+    }
+
+    /// R4, of parts: "if they are equal, or if Y is X with none in place of a
+    /// term result."
+    fn covers(self, other: FilledPart<'_>) -> bool {
+        if self.part == other.part {
+            return self.terms.equals(other.terms);
+        }
+        other.part == self.part.emptied() && self.call().equals(other.terms)
+    }
+}
+
+/// An arrow atom, filled: its object and its part.
+struct ArrowAtom<'a> {
+    object: Filled<'a>,
+    said: FilledPart<'a>,
+}
+
 /// A literal of a parent that the step names, with the list that fills it.
 #[derive(Clone, Copy)]
 struct Premise<'a> {
@@ -281,15 +327,9 @@ struct Premise<'a> {
     list: &'a Substitution,
 }
 
-/// An sv or si atom's object, method and arguments, and its result.
-struct Scalar<'a> {
-    call: Filled<'a>,
-    result: Filled<'a>,
-}
-
 impl<'a> Premise<'a> {
     /// Some of the literal's nodes, filled.
-    fn part(self, range: Range<usize>) -> Filled<'a> {
+    fn nodes(self, range: Range<usize>) -> Filled<'a> {
         Filled {
             nodes: &self.literal.nodes[range],
             list: self.list,
@@ -298,7 +338,7 @@ impl<'a> Premise<'a> {
 
     /// All of the literal's nodes, filled.
     fn terms(self) -> Filled<'a> {
-        self.part(0..self.literal.nodes.len())
+        self.nodes(0..self.literal.nodes.len())
     }
 
     /// The nodes of the atom's term at a place.
@@ -310,60 +350,49 @@ impl<'a> Premise<'a> {
     /// of eq, mem and sub.
     fn positive_pair(self, head: Head) -> Result<[Filled<'a>; 2], Check> {
         Check::Shape.require(self.literal.positive && self.literal.head == head)?;
-        Ok([self.part(self.place(0)?), self.part(self.place(1)?)])
+        Ok([self.nodes(self.place(0)?), self.nodes(self.place(1)?)])
     }
 
     /// The number of arguments of a literal that must be, R15 to R17, "+ st or
     /// mt", with any result.
     fn signature_arguments(self) -> Result<usize, Check> {
         match self.literal.head {
-            Head::Method {
-                arrow, arguments, ..
-            } if self.literal.positive && arrow.is_signature() => Ok(arguments.into()),
-            _ => Err(Check::Shape),
-        }
-    }
-
-    /// The parts of a literal that must be, R18, "+ sv or si".
-    fn scalar(self) -> Result<Scalar<'a>, Check> {
-        match self.literal.head {
-            Head::Method {
-                arrow, arguments, ..
-            } if self.literal.positive && arrow.is_scalar() => {
-                let result = self.place(ARGUMENTS + usize::from(arguments))?;
-                Ok(Scalar {
-                    call: self.part(0..result.start),
-                    result: self.part(result),
-                })
+            Head::Arrow(part) if self.literal.positive && part.arrow.is_signature() => {
+                Ok(part.arguments.into())
             }
             _ => Err(Check::Shape),
         }
     }
 
+    /// The object and the part of an arrow atom.
+    fn arrow_atom(self) -> Option<ArrowAtom<'a>> {
+        let Head::Arrow(part) = self.literal.head else {
+            return None;
+        };
+        let object = self.literal.place(OBJECT)?;
+        let terms = self.nodes(object.end..self.literal.nodes.len());
+        Some(ArrowAtom {
+            object: self.nodes(object),
+            said: FilledPart { part, terms },
+        })
+    }
+
+    /// The atom of a literal that must be, R18, "+ sv or si".
+    fn scalar(self) -> Result<ArrowAtom<'a>, Check> {
+        let atom = self.arrow_atom().ok_or(Check::Shape)?;
+        Check::Shape.require(self.literal.positive && atom.said.part.arrow.is_scalar())?;
+        Ok(atom)
+    }
+
     /// R4: "X *covers* Y if they are equal, or if Y is X with none in place of a
     /// term result." Only the atoms are compared.
     fn covers(self, other: Premise<'_>) -> bool {
-        if self.literal.head == other.literal.head {
-            return self.terms().equals(other.terms());
+        match (self.arrow_atom(), other.arrow_atom()) {
+            (Some(atom), Some(covered)) => {
+                atom.object.equals(covered.object) && atom.said.covers(covered.said)
+            }
+            _ => self.literal.head == other.literal.head && self.terms().equals(other.terms()),
         }
-        let Head::Method {
-            arrow,
-            arguments,
-            has_result: true,
-        } = self.literal.head
-        else {
-            return false;
-        };
-        let emptied = Head::Method {
-            arrow,
-            arguments,
-            has_result: false,
-        };
-        // The result is the last term, so its start is where the terms of an
-        // atom with none end.
-        let result = self.literal.place(ARGUMENTS + usize::from(arguments));
-        other.literal.head == emptied
-            && result.is_some_and(|result| self.part(0..result.start).equals(other.terms()))
     }
 
     /// The literal, filled, with one of its terms replaced. The agreement is
@@ -374,14 +403,14 @@ impl<'a> Premise<'a> {
         from: Filled<'a>,
         to: Filled<'a>,
     ) -> Result<FilledLiteral<'a>, Check> {
-        Check::Agreement.require(self.part(range.clone()).equals(from))?;
+        Check::Agreement.require(self.nodes(range.clone()).equals(from))?;
         Ok(FilledLiteral {
             positive: self.literal.positive,
             head: self.literal.head,
             terms: [
-                self.part(0..range.start),
+                self.nodes(0..range.start),
                 to,
-                self.part(range.end..self.literal.nodes.len()),
+                self.nodes(range.end..self.literal.nodes.len()),
             ],
         })
     }

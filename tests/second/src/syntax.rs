@@ -27,6 +27,11 @@ impl Node {
     }
 }
 
+/// The number of nodes of the first terms, so many, in a preorder sequence.
+pub fn first_terms_len(nodes: &[Node], count: usize) -> usize {
+    (0..count).fold(0, |len, _| len + first_term_len(&nodes[len..]))
+}
+
 /// The number of nodes of the first term in a preorder sequence.
 fn first_term_len(nodes: &[Node]) -> usize {
     let mut pending = 1;
@@ -77,6 +82,30 @@ impl Arrow {
     }
 }
 
+/// What an arrow atom (T13) says of its object, but for the terms: method,
+/// arguments and, unless the result is `none`, the result.
+#[derive(Clone, Copy, Debug, PartialEq, Eq)]
+pub struct Part {
+    pub arrow: Arrow,
+    pub arguments: u16,
+    pub has_result: bool,
+}
+
+impl Part {
+    /// The number of its terms but for the result: method and arguments.
+    pub fn call_terms(self) -> usize {
+        1 + usize::from(self.arguments)
+    }
+
+    /// R4: the part "with none in place of a term result".
+    pub fn emptied(self) -> Part {
+        Part {
+            has_result: false,
+            ..self
+        }
+    }
+}
+
 /// All of an atom (T13) but its terms. Atoms of equal head have equally many
 /// terms in the same places.
 #[derive(Clone, Copy, Debug, PartialEq, Eq)]
@@ -89,13 +118,8 @@ pub enum Head {
     Subclass,
     /// `(obj T)`
     Object,
-    /// `(ARROW O M (T ...) R)`: the terms are object, method, arguments and,
-    /// unless the result is `none`, the result.
-    Method {
-        arrow: Arrow,
-        arguments: u16,
-        has_result: bool,
-    },
+    /// `(ARROW O M (T ...) R)`: the terms are the object and those of the part.
+    Arrow(Part),
 }
 
 /// T16: "`(+ ATOM)` is a positive literal, `(- ATOM)` a negative one." It is a

@@ -211,20 +211,26 @@ impl Atom {
     fn write(&self, out: &mut String) {
         write!(out, "({} ", self.word).unwrap();
         if self.is_arrow() {
-            let (call, rest) = self.terms.split_at(2);
-            let (arguments, result) = rest.split_at(self.arguments());
-            write_row(call, out);
-            out.push_str(" (");
-            write_row(arguments, out);
-            out.push_str(") ");
-            write_row(result, out);
-            if self.none {
-                out.push_str("none");
-            }
+            self.terms[0].write(out);
+            out.push(' ');
+            self.write_part(out);
         } else {
             write_row(&self.terms, out);
         }
         out.push(')');
+    }
+
+    /// Writes an arrow atom's part, from the method on.
+    fn write_part(&self, out: &mut String) {
+        let (arguments, result) = self.terms[2..].split_at(self.arguments());
+        self.terms[1].write(out);
+        out.push_str(" (");
+        write_row(arguments, out);
+        out.push_str(") ");
+        write_row(result, out);
+        if self.none {
+            out.push_str("none");
+        }
     }
 }
 
