@@ -10,7 +10,7 @@ use filling::compare::stands;
 use scan::words::word;
 use source::clause_part;
 ghost use mathlib.Core.Path.{_≡_};
-ghost use Rattle.filling.specs.Agree.{agreeAt, callsAt};
+ghost use Rattle.filling.specs.Agree.{agreeAt, partsAt, callsAt};
 ghost use Rattle.filling.specs.Covers.{headAt, bareAt, coversAt};
 
 // The two items are the same.
@@ -42,6 +42,27 @@ pub fn agree(
     within(a, ends.at)
 }
 
+// Parts whose methods are at x and y have the same method and arguments.
+fn parts(
+    depth: u8,
+    a: &[u8],
+    x: usize,
+    line: &[u8],
+    first: &[usize],
+    b: &[u8],
+    y: usize,
+    second: &[usize],
+) -> bool
+    ensures { λ r.
+        ⌜ r ≡ partsAt depth (now (a .entry)) x (now (line .entry)) (now (first .entry)) (now (b .entry)) y
+        (now (second .entry)) ⌝ }
+{
+    if agree(depth, a, x, line, first, b, y, second) {
+        return agree(depth, a, next(a, x), line, first, b, next(b, y), second);
+    }
+    false
+}
+
 // Arrow atoms whose objects are at x and y are alike but for their results.
 pub fn calls(
     depth: u8,
@@ -59,11 +80,7 @@ pub fn calls(
     ensures { λ _. ⌜ (now (a .exit) ≡ now (a .entry)) × (now (line .exit) ≡ now (line .entry)) × (now (b .exit) ≡ now (b .entry)) ⌝ }
 {
     if agree(depth, a, x, line, first, b, y, second) {
-        let u = next(a, x);
-        let v = next(b, y);
-        if agree(depth, a, u, line, first, b, v, second) {
-            return agree(depth, a, next(a, u), line, first, b, next(b, v), second);
-        }
+        return parts(depth, a, next(a, x), line, first, b, next(b, y), second);
     }
     false
 }

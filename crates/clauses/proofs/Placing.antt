@@ -10,9 +10,10 @@ use borrow.Author.Tests.{le-leb, lt-leb}
 use lib.Dec.{T, leb}
 use lib.ListN.{length, drop, drop-of-length-le}
 use Rattle.logic.specs.declared.Sign.the-variants.{Positive, Negative}
-use Rattle.logic.specs.Syntax.{Term, var, app, Terms, Result, value, none, Atom, link, obj, method, Literal, lit}
+use Rattle.logic.specs.declared.Arrow.{Arrow}
+use Rattle.logic.specs.Syntax.{Term, var, app, Terms, Result, value, none, part, Atom, Literal, lit}
 use Rattle.text.specs.Words.{bytes}
-use Rattle.text.specs.Write.{word, putTerm, putArguments, putResult, putAtom, putLiteral}
+use Rattle.text.specs.Write.{word, putTerm, putArguments, putResult, putPart, putAtom, putLiteral}
 use Rattle.text.specs.Read.{Parsed, bad, got, Reader, strip}
 use Rattle.text.specs.Places.{endOf}
 use Rattle.text.specs.Access.{skipItem, toArgument}
@@ -105,12 +106,9 @@ module _ (p : List ℕ) where
   if-place-past x y e = rw (lt-leb x (length p) (omega arith))
 
   -- The result of an arrow atom, from its object on.
-  abbrev pub fromMethod : Term → Terms → Result → List ℕ → List ℕ
-  fromMethod m ts r rest = putTerm m (word " " (putArguments ts (word " " (putResult r (word ")" rest)))))
-
-  pub result-stands : {o : ℕ} (t m : Term) (ts : Terms) (r : Result) (rest : List ℕ) → Stands p o (putTerm t (word " " (fromMethod m ts r rest))) → Stands p (resultAt p o) (putResult r (word ")" rest))
-  unfolding resultAt
-  result-stands t m ts r rest s = next-arguments ts (next-term m (next-term t s))
+  pub result-stands : {o : ℕ} (t : Term) (a : Arrow) (m : Term) (ts : Terms) (r : Result) (rest : List ℕ) → Stands p o (putTerm t (word " " (putPart (part a m ts r) rest))) → Stands p (resultAt p o) (putResult r (word ")" rest))
+  unfolding resultAt putPart
+  result-stands t a m ts r rest s = next-arguments ts (next-term m (next-term t s))
 
   pub past-result : resultAt p (length p + 1) ≡ length p + 1
   unfolding resultAt
@@ -147,15 +145,15 @@ module _ (p : List ℕ) where
       rw (e, f) (or-else-past (stripAt p (b ∷ v) (length p + 1)) (stripAt p (c ∷ w) (length p + 1)) (past-strip b v) ∙ past-strip c w)
 
   -- The result of an arrow atom where it is a term, and where it is none.
-  pub value-of : {o : ℕ} (t m : Term) (ts : Terms) (r : Term) (rest : List ℕ) → Stands p o (putTerm t (word " " (fromMethod m ts (value r) rest))) → valueAt p o ≡ resultAt p o
+  pub value-of : {o : ℕ} (t : Term) (a : Arrow) (m : Term) (ts : Terms) (r : Term) (rest : List ℕ) → Stands p o (putTerm t (word " " (putPart (part a m ts (value r)) rest))) → valueAt p o ≡ resultAt p o
   unfolding valueAt putResult
-  value-of {o} t m ts r rest s =
+  value-of {o} t a m ts r rest s =
       let w = term-opens r (word ")" rest) in
-      if-place-here (stripAt p (bytes "(") (resultAt p o)) (resultAt p o) (strip-stands (bytes "(") (result-stands t m ts (value r) rest s) (w .1) .within)
+      if-place-here (stripAt p (bytes "(") (resultAt p o)) (resultAt p o) (strip-stands (bytes "(") (result-stands t a m ts (value r) rest s) (w .1) .within)
 
-  pub value-none : {o : ℕ} (t m : Term) (ts : Terms) (rest : List ℕ) → Stands p o (putTerm t (word " " (fromMethod m ts none rest))) → valueAt p o ≡ length p + 1
+  pub value-none : {o : ℕ} (t : Term) (a : Arrow) (m : Term) (ts : Terms) (rest : List ℕ) → Stands p o (putTerm t (word " " (putPart (part a m ts none) rest))) → valueAt p o ≡ length p + 1
   unfolding valueAt putResult strip
-  value-none {o} t m ts rest s = if-place-past (stripAt p (bytes "(") (resultAt p o)) (resultAt p o) (strip-past (bytes "(") (result-stands t m ts none rest s) refl)
+  value-none {o} t a m ts rest s = if-place-past (stripAt p (bytes "(") (resultAt p o)) (resultAt p o) (strip-past (bytes "(") (result-stands t a m ts none rest s) refl)
 
   pub past-value : valueAt p (length p + 1) ≡ length p + 1
   unfolding valueAt

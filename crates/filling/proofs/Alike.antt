@@ -15,7 +15,7 @@ use Rattle.text.specs.Access.{closing, skipItem}
 use Rattle.text.proofs.Tests.{onTest}
 use Rattle.text.proofs.Gives.{Gives, nothing, gives, given, weaken, bind, strip-gives, none, branch, oneOf-meets}
 use Rattle.text.proofs.Number.{number-complete}
-use Rattle.text.proofs.Trees.{Tree, var, node, Trees, end, byte, part, putTree, putInside, Clean, CleanIn, Within, WithinIn, Below, put-term}
+use Rattle.text.proofs.Trees.{Tree, var, node, Trees, end, byte, bracket, putTree, putInside, Clean, CleanIn, Within, WithinIn, Below, put-term}
 use Rattle.text.proofs.Nesting.{inner-tests}
 use Rattle.filling.specs.Filled.{Filler, prefixed, insideUpTo, inside, readIndex, indexed, instead, fillItem, matches, along, nothingLeft, both, turned, sameItem}
 use Rattle.filling.proofs.Filling.{fillTree, fillTrees, tree-longer, not-variable, after-it, fill-tree, trees}
@@ -83,7 +83,7 @@ module _ {f g : Filler} {σ τ : ℕ → Tree} {P Q : ℕ → Type 0} (F : Fills
     same-inside end end d c e v w h zero r s l = absurd (omega arith)
     same-inside end end d c e v w h (suc k) r s l = refl
     same-inside end (byte b us) d c e v w h k r s l = cc
-    same-inside end (part u us) d c e v w h k r s l = cc
+    same-inside end (bracket u us) d c e v w h k r s l = cc
     same-inside (byte b ts) end d c e v w h k r s l = cc
     same-inside (byte b ts) (byte x us) d c e v w h zero r s l = absurd (omega arith)
     same-inside (byte b ts) (byte x us) d c e v w h (suc k) r s l =
@@ -91,11 +91,11 @@ module _ {f g : Filler} {σ τ : ℕ → Tree} {P Q : ℕ → Type 0} (F : Fills
         let j : fillTrees σ ts ≡ fillTrees τ us = cc in
         let (m, n) = inner-tests b (c .0) in
         rw (m, n, eq-eqb b x i, same-inside ts us d (c .1) (e .1) v w j k r s (omega arith))
-    same-inside (byte b ts) (part u us) d c e v w h k r s l = cc
-    same-inside (part t ts) end d c e v w h k r s l = cc
-    same-inside (part t ts) (byte b us) d c e v w h k r s l = cc
-    same-inside (part t ts) (part u us) d c e v w h zero r s l = absurd (omega (arith, tree-longer t (putInside ts (41 ∷ r))))
-    same-inside (part t ts) (part u us) d c e v w h (suc k) r s l =
+    same-inside (byte b ts) (bracket u us) d c e v w h k r s l = cc
+    same-inside (bracket t ts) end d c e v w h k r s l = cc
+    same-inside (bracket t ts) (byte b us) d c e v w h k r s l = cc
+    same-inside (bracket t ts) (bracket u us) d c e v w h zero r s l = absurd (omega (arith, tree-longer t (putInside ts (41 ∷ r))))
+    same-inside (bracket t ts) (bracket u us) d c e v w h (suc k) r s l =
         let i : fillTree σ t ≡ fillTree τ u = cc in
         let j : fillTrees σ ts ≡ fillTrees τ us = cc in
         let m = tree-longer t (putInside ts (41 ∷ r)) in

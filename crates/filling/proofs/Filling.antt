@@ -7,16 +7,17 @@ use native.Mathlib.Omega.{arith}
 use lib.Dec.{T, eqb, T-not}
 use lib.ListN.{length, length-append}
 use borrow.Author.Tests.{ne-eqb}
-use Rattle.logic.specs.Syntax.{Term, var as variable, app, Terms, nil, cons, Result, value, none, Atom, link, obj, method, Literal, lit}
+use Rattle.logic.specs.Syntax.{Term, var as variable, app, Terms, nil, cons, Result, value, none, Part, part, Atom, link, obj, arrows, Literal, lit}
 use Rattle.logic.specs.Each.{termWidth}
-use Rattle.logic.specs.Fill.{Substitution, fill, fills, fillResult, fillAtom, fillLiteral}
+use Rattle.logic.specs.Fill.{Substitution, fill, fills, fillResult, fillPart, fillAtom, fillLiteral}
+use Rattle.logic.proofs.Filling.{arrow-fill}
 use Rattle.text.specs.Words.{bytes}
 use Rattle.text.specs.Write.{putTerm}
 use Rattle.text.specs.Form.{formedNumber, formedTerm}
 use Rattle.text.specs.Read.{bad, got, Reader, andThen, oneOf, strip, digit}
 use Rattle.text.proofs.Number.{number-complete}
 use Rattle.text.proofs.Plain.{number-plain, in-front, put-grows}
-use Rattle.text.proofs.Trees.{Tree, var, node, Trees, end, byte, part, putTree, putInside, opens, Clean, CleanIn, Within, WithinIn, numberBytes, texts, Below, treeTerm, treeTerms, treeArguments, treeResult, treeAtom, treeLiteral, put-term, clean-term, within-term}
+use Rattle.text.proofs.Trees.{Tree, var, node, Trees, end, byte, bracket, putTree, putInside, opens, Clean, CleanIn, Within, WithinIn, numberBytes, texts, Below, treeTerm, treeTerms, treeArguments, treeResult, treePart, treeAtom, treeLiteral, put-term, clean-term, within-term}
 use Rattle.text.proofs.Nesting.{inner-tests}
 use Rattle.filling.specs.Filled.{Filler, prefixed, insideUpTo, inside, readIndex, indexed, fillItem}
 
@@ -28,7 +29,7 @@ unfoldable mutual
   pub fillTrees : (ℕ → Tree) → Trees → Trees
   fillTrees σ end = end
   fillTrees σ (byte b ts) = byte b (fillTrees σ ts)
-  fillTrees σ (part t ts) = part (fillTree σ t) (fillTrees σ ts)
+  fillTrees σ (bracket t ts) = bracket (fillTree σ t) (fillTrees σ ts)
 
 -- A tree's bytes alone, then what follows.
 mutual
@@ -41,7 +42,7 @@ mutual
   pub inside-front : (ts : Trees) (rest : List ℕ) → putInside ts rest ≡ putInside ts [] ++ rest
   inside-front end rest = refl
   inside-front (byte b ts) rest = rw (inside-front ts rest)
-  inside-front (part t ts) rest = rw (inside-front ts rest, tree-front t (putInside ts [] ++ rest), tree-front t (putInside ts []), append-assoc)
+  inside-front (bracket t ts) rest = rw (inside-front ts rest, tree-front t (putInside ts [] ++ rest), tree-front t (putInside ts []), append-assoc)
 
 pub inside-grows : (ts : Trees) (rest : List ℕ) → length rest ≤ length (putInside ts rest)
 inside-grows ts rest = rw (inside-front ts rest, length-append) (omega arith)
@@ -59,8 +60,8 @@ not-variable (byte b ts) o rest = rw (other b o)
   where
     other : (b : ℕ) → T (not (eqb b 118)) → eqb 118 b ≡ false
     other b o = ne-eqb 118 b (λ e. T-not (eqb b 118) o (rw (← e) tt))
-not-variable (part (var n) ts) o rest = refl
-not-variable (part (node us) ts) o rest = refl
+not-variable (bracket (var n) ts) o rest = refl
+not-variable (bracket (node us) ts) o rest = refl
 
 pub inside-part : (item : Reader (List ℕ)) (k : ℕ) (t : Tree) (rest : List ℕ) → insideUpTo item (suc k) (putTree t rest) ≡ andThen (item (putTree t rest)) (λ w left. prefixed w (insideUpTo item k left))
 unfolding insideUpTo putTree
@@ -98,8 +99,8 @@ module _ (f : Filler) (σ : ℕ → Tree) (P : ℕ → Type 0) (formed : (n : �
     fill-inside (byte b ts) d c w (suc k) rest h o =
         let (i, j) = inner-tests b (c .0) in
         rw (i, j, fill-inside ts d (c .1) w k rest (omega arith) (narrow _ _ o (omega arith) (omega arith)))
-    fill-inside (part t ts) d c w zero rest h o = absurd (omega (arith, tree-longer t (putInside ts (41 ∷ rest))))
-    fill-inside (part t ts) d c w (suc k) rest h o =
+    fill-inside (bracket t ts) d c w zero rest h o = absurd (omega (arith, tree-longer t (putInside ts (41 ∷ rest))))
+    fill-inside (bracket t ts) d c w (suc k) rest h o =
         let l = tree-longer t (putInside ts (41 ∷ rest)) in
         let g = inside-grows ts (41 ∷ rest) in
         inside-part (fillItem f d) k t (putInside ts (41 ∷ rest))
@@ -136,11 +137,15 @@ module _ (σ : Substitution) where
   tree-result (value t) = rw (tree-term t)
   tree-result none = fill-texts trees (bytes "none") end
 
+  pub tree-part : (p : Part) → fillTrees trees (treePart p) ≡ treePart (fillPart σ p)
+  unfolding fillTrees treePart fillPart
+  tree-part (part a m ts r) = rw (tree-term m, tree-arguments ts, tree-result r)
+
   pub tree-atom : (x : Atom) → fillTree trees (treeAtom x) ≡ treeAtom (fillAtom σ x)
   unfolding fillTree treeAtom fillAtom
   tree-atom (link l t u) = rw (fill-texts, tree-term t, tree-term u)
   tree-atom (obj t) = rw (fill-texts, tree-term t)
-  tree-atom (method a o m ts r) = rw (fill-texts, tree-term o, tree-term m, tree-arguments ts, tree-result r)
+  tree-atom (arrows o p) = rw (fill-texts, tree-term o, tree-part p, arrow-fill σ p)
 
   pub tree-literal : (l : Literal) → fillTree trees (treeLiteral l) ≡ treeLiteral (fillLiteral σ l)
   unfolding fillTree treeLiteral fillLiteral

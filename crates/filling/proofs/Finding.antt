@@ -11,13 +11,13 @@ use Rattle.logic.specs.declared.Link.{Link}
 use Rattle.logic.specs.declared.Link.the-variants.{Eq, Mem, Sub}
 use Rattle.logic.specs.declared.Arrow.{Arrow}
 use Rattle.logic.specs.declared.Arrow.the-variants.{Sv, Si, Mv, Mi, St, Mt}
-use Rattle.logic.specs.Syntax.{Term, var as variable, app, Terms, nil, cons, Result, value, none, Atom, link, obj, method, lit}
-use Rattle.logic.specs.Terms.{count, join, termsOf, resultTerms, entryOr, nth, front, rest, withResult, withTerms}
+use Rattle.logic.specs.Syntax.{Term, var as variable, app, Terms, nil, cons, Result, value, none, Part, part, arrowOf, Atom, link, obj, arrows, lit}
+use Rattle.logic.specs.Terms.{count, join, partTerms, termsOf, resultTerms, entryOr, nth, front, rest, withResult, withPartTerms, withTerms}
 use Rattle.logic.specs.Fill.{Substitution, fill, fills, fillResult}
 use Rattle.logic.specs.Occurrence.{Search, past, found, mapSearch, inTurn, findTerm, findTerms, findAtom, findLiteral}
 use Rattle.text.specs.Words.{bytes, signWord, linkWord, arrowWord}
 use Rattle.text.specs.Write.{Writer}
-use Rattle.text.proofs.Trees.{Tree, node, Trees, end, byte, part, putInside, texts, numberBytes, treeTerm, treeTerms, treeArguments, treeResult, treeAtom, treeLiteral}
+use Rattle.text.proofs.Trees.{Tree, node, Trees, end, byte, bracket, putInside, texts, numberBytes, treeTerm, treeTerms, treeArguments, treeResult, treePart, treeAtom, treeLiteral}
 use Rattle.filling.proofs.Filling.{fillTree, fillTrees, trees, tree-term, tree-terms, tree-arguments, tree-result}
 use Rattle.filling.proofs.Holes.{Found, past as passed, found as spotted, mapFound, turn, applied, findTree, findTrees}
 
@@ -53,7 +53,7 @@ alike-as other h (there {x} t v e p q y) = there t v e p q (y ∙ h x q)
 -- A term, a space and what the terms behind it give.
 unfoldable ahead : (Terms → Trees) → Terms → Trees
 ahead tail nil = end
-ahead tail (cons a b) = part (treeTerm a) (byte 32 (tail b))
+ahead tail (cons a b) = bracket (treeTerm a) (byte 32 (tail b))
 
 -- A form around the terms that were searched.
 alike-form : {X Y Z : Type 0} {σ : Substitution} {P : Term → Type 0} {Q : X → Type 0} {R : Y → Type 0} {tree : X → Z} {form : Y → Z} {s : Search X} {g : Found Z} (f : X → Y) → ((x : X) → Q x → (tree x ≡ form (f x)) × R (f x)) → Alike σ P Q tree s g → Alike σ P R form (mapSearch f s) g
@@ -101,7 +101,7 @@ module _ (σ : Substitution) (u : Term) (P : Term → Type 0) (parts : (n : ℕ)
   -- Terms with no space in front of the first.
   unfoldable first : Terms → Trees
   first nil = end
-  first (cons t ts) = part (treeTerm t) (treeTerms ts)
+  first (cons t ts) = bracket (treeTerm t) (treeTerms ts)
 
   spaced : (n : ℕ) (us : Terms) → count us ≡ suc n → byte 32 (first us) ≡ treeTerms us
   unfolding first treeTerms count
@@ -119,12 +119,12 @@ module _ (σ : Substitution) (u : Term) (P : Term → Type 0) (parts : (n : ℕ)
 
     alike-terms : (ts : Terms) → All P ts → (k : ℕ) → Alike σ P (λ us. count us ≡ count ts) treeTerms (findTerms σ u ts k) (findTrees τ (treeTerm u) (treeTerms ts) k)
     alike-terms nil h k = gone k
-    alike-terms (cons t ts) h k = alike-as treeTerms (λ us q. spaced (count ts) us q) (alike-tree (byte 32) (λ r. r) (alike-turn {tz = first} (fill σ t) (fills σ ts) (putInside (treeTerms ts)) cons part tt (count-fill σ ts) (tree-term σ t) (tree-terms σ ts) (λ a b q r. (refl, ap suc r)) (alike-term t (h .0) k) (λ j. alike-terms ts (h .1) j)))
+    alike-terms (cons t ts) h k = alike-as treeTerms (λ us q. spaced (count ts) us q) (alike-tree (byte 32) (λ r. r) (alike-turn {tz = first} (fill σ t) (fills σ ts) (putInside (treeTerms ts)) cons bracket tt (count-fill σ ts) (tree-term σ t) (tree-terms σ ts) (λ a b q r. (refl, ap suc r)) (alike-term t (h .0) k) (λ j. alike-terms ts (h .1) j)))
 
   alike-first : (ts : Terms) → All P ts → (k : ℕ) → Alike σ P (λ us. count us ≡ count ts) first (findTerms σ u ts k) (findTrees τ (treeTerm u) (first ts) k)
   unfolding findTerms findTrees first fills count All
   alike-first nil h k = gone k
-  alike-first (cons t ts) h k = alike-turn (fill σ t) (fills σ ts) (putInside (treeTerms ts)) cons part tt (count-fill σ ts) (tree-term σ t) (tree-terms σ ts) (λ a b q r. (refl, ap suc r)) (alike-term t (h .0) k) (λ j. alike-terms ts (h .1) j)
+  alike-first (cons t ts) h k = alike-turn (fill σ t) (fills σ ts) (putInside (treeTerms ts)) cons bracket tt (count-fill σ ts) (tree-term σ t) (tree-terms σ ts) (λ a b q r. (refl, ap suc r)) (alike-term t (h .0) k) (λ j. alike-terms ts (h .1) j)
 
   arguments-first : (ts : Terms) → node (first ts) ≡ treeArguments ts
   unfolding first treeArguments
@@ -192,24 +192,24 @@ module _ (σ : Substitution) (u : Term) (P : Term → Type 0) (parts : (n : ℕ)
 
   -- Arguments and result, from their terms.
   unfoldable closing : Terms → Result → Terms → Trees
-  closing ts r us = part (treeArguments (front (count ts) us)) (byte 32 (treeResult (withResult r (rest (count ts) us))))
+  closing ts r us = bracket (treeArguments (front (count ts) us)) (byte 32 (treeResult (withResult r (rest (count ts) us))))
 
   count-join : (a b : Terms) → count (join a b) ≡ count a + count b
   unfolding count join
   count-join nil b = omega arith
   count-join (cons t a) b = omega (arith, count-join a b)
 
-  alike-closing : (ts : Terms) (r : Result) → All P (join ts (resultTerms r)) → (k : ℕ) → Alike σ P (λ us. count us ≡ count (join ts (resultTerms r))) (closing ts r) (findTerms σ u (join ts (resultTerms r)) k) (findTrees τ (treeTerm u) (part (treeArguments ts) (byte 32 (treeResult r))) k)
+  alike-closing : (ts : Terms) (r : Result) → All P (join ts (resultTerms r)) → (k : ℕ) → Alike σ P (λ us. count us ≡ count (join ts (resultTerms r))) (closing ts r) (findTerms σ u (join ts (resultTerms r)) k) (findTrees τ (treeTerm u) (bracket (treeArguments ts) (byte 32 (treeResult r))) k)
   unfolding findTrees closing fillTrees
   alike-closing ts r h k =
       let i = all-join P ts (resultTerms r) h in
-      rw (find-join ts (resultTerms r) k) (alike-turn {tz = closing ts r} (fills σ ts) (fills σ (resultTerms r)) (putInside (byte 32 (treeResult r))) join part (count-fill σ ts) (count-fill σ (resultTerms r)) (tree-arguments σ ts) (ap (byte 32) (tree-result σ r ∙ ap treeResult (sym (own-result r))))
+      rw (find-join ts (resultTerms r) k) (alike-turn {tz = closing ts r} (fills σ ts) (fills σ (resultTerms r)) (putInside (byte 32 (treeResult r))) join bracket (count-fill σ ts) (count-fill σ (resultTerms r)) (tree-arguments σ ts) (ap (byte 32) (tree-result σ r ∙ ap treeResult (sym (own-result r))))
       (λ a b q s. (let h = front-join a b (count ts) q in rw (h .0, h .1), omega (arith, count-join a b, count-join ts (resultTerms r)))) (alike-arguments ts (i .0) k) (λ j. alike-tree (byte 32) (λ x. x) (alike-result r (i .1) j)))
 
   -- A term in front of more terms.
-  alike-then : (t : Term) → P t → (ts : Terms) (tail : Terms → Trees) (after own : Trees) → fillTrees τ after ≡ byte 32 own → own ≡ tail (fills σ ts) → ((k : ℕ) → Alike σ P (λ us. count us ≡ count ts) (λ us. byte 32 (tail us)) (findTerms σ u ts k) (findTrees τ (treeTerm u) after k)) → (k : ℕ) → Alike σ P (λ us. count us ≡ suc (count ts)) (ahead tail) (findTerms σ u (cons t ts) k) (findTrees τ (treeTerm u) (part (treeTerm t) after) k)
+  alike-then : (t : Term) → P t → (ts : Terms) (tail : Terms → Trees) (after own : Trees) → fillTrees τ after ≡ byte 32 own → own ≡ tail (fills σ ts) → ((k : ℕ) → Alike σ P (λ us. count us ≡ count ts) (λ us. byte 32 (tail us)) (findTerms σ u ts k) (findTrees τ (treeTerm u) after k)) → (k : ℕ) → Alike σ P (λ us. count us ≡ suc (count ts)) (ahead tail) (findTerms σ u (cons t ts) k) (findTrees τ (treeTerm u) (bracket (treeTerm t) after) k)
   unfolding findTerms findTrees ahead fills count
-  alike-then t i ts tail after own e h l k = alike-turn {tz = ahead tail} (fill σ t) (fills σ ts) (putInside after) cons part tt (count-fill σ ts) (tree-term σ t) (e ∙ ap (byte 32) h) (λ a b _ q. (refl, ap suc q)) (alike-term t i k) l
+  alike-then t i ts tail after own e h l k = alike-turn {tz = ahead tail} (fill σ t) (fills σ ts) (putInside after) cons bracket tt (count-fill σ ts) (tree-term σ t) (e ∙ ap (byte 32) h) (λ a b _ q. (refl, ap suc q)) (alike-term t i k) l
 
   alike-bracket : {X : Type 0} {Q : X → Type 0} {tree : X → Trees} {s : Search X} (ts : Trees) → applied ts ≡ false → (k : ℕ) → Alike σ P Q tree s (findTrees τ (treeTerm u) ts k) → Alike σ P Q (λ x. node (tree x)) s (findTree τ (treeTerm u) (node ts) k)
   alike-bracket ts e k h = rw (in-bracket σ u ts e k) (alike-tree node (λ r. 41 ∷ r) h)
@@ -227,53 +227,65 @@ module _ (σ : Substitution) (u : Term) (P : Term → Type 0) (parts : (n : ℕ)
   an-object t (cons a nil) q = refl
   an-object t (cons a (cons b us)) q = absurd (let z : _≡_ {A = ℕ} (suc (suc (count us))) 1 = q in omega arith)
 
-  a-method : (a : Arrow) (o m : Term) (ts : Terms) (r : Result) (us : Terms) → count us ≡ suc (count (cons m (join ts (resultTerms r)))) → node (texts (bytes (arrowWord a)) (byte 32 (ahead (ahead (closing ts r)) us))) ≡ treeAtom (withTerms (method a o m ts r) us)
-  unfolding ahead closing treeAtom withTerms nth entryOr count rest
-  a-method a o m ts r nil q = absurd (let z : _≡_ {A = ℕ} 0 (suc (suc (count (join ts (resultTerms r))))) = q in omega arith)
-  a-method a o m ts r (cons x nil) q = absurd (let z : _≡_ {A = ℕ} 1 (suc (suc (count (join ts (resultTerms r))))) = q in omega arith)
-  a-method a o m ts r (cons x (cons y us)) q = refl
+  -- A part, from its terms.
+  abbrev parted : Part → Terms → Trees
+  parted p us = treePart (withPartTerms p us)
 
-  filled-last : (v : Term) → fillTrees τ (byte 32 (part (treeTerm v) end)) ≡ byte 32 (first (fills σ (cons v nil)))
+  a-part : (a : Arrow) (m : Term) (ts : Terms) (r : Result) (us : Terms) → count us ≡ suc (count (join ts (resultTerms r))) → ahead (closing ts r) us ≡ parted (part a m ts r) us
+  unfolding ahead closing treePart withPartTerms nth entryOr count rest
+  a-part a m ts r nil q = absurd (let z : _≡_ {A = ℕ} 0 (suc (count (join ts (resultTerms r)))) = q in omega arith)
+  a-part a m ts r (cons x us) q = refl
+
+  an-arrow : (o : Term) (p : Part) (us : Terms) → count us ≡ suc (count (partTerms p)) → node (texts (bytes (arrowWord (arrowOf p))) (byte 32 (ahead (parted p) us))) ≡ treeAtom (withTerms (arrows o p) us)
+  unfolding ahead treeAtom withTerms withPartTerms nth entryOr count rest
+  an-arrow o p nil q = absurd (let z : _≡_ {A = ℕ} 0 (suc (count (partTerms p))) = q in omega arith)
+  an-arrow o (part a m ts r) (cons x us) q = refl
+
+  filled-last : (v : Term) → fillTrees τ (byte 32 (bracket (treeTerm v) end)) ≡ byte 32 (first (fills σ (cons v nil)))
   unfolding fillTrees first fills treeTerms
   filled-last v = rw (tree-term σ v)
 
-  filled-closing : (ts : Terms) (r : Result) → fillTrees τ (part (treeArguments ts) (byte 32 (treeResult r))) ≡ closing ts r (fills σ (join ts (resultTerms r)))
+  filled-closing : (ts : Terms) (r : Result) → fillTrees τ (bracket (treeArguments ts) (byte 32 (treeResult r))) ≡ closing ts r (fills σ (join ts (resultTerms r)))
   unfolding fillTrees closing
   filled-closing ts r =
       let h = front-join (fills σ ts) (fills σ (resultTerms r)) (count ts) (count-fill σ ts) in
       rw (fills-join ts (resultTerms r), h .0, h .1, own-result r, tree-arguments σ ts, tree-result σ r)
 
-  filled-rest : (ts : Terms) (r : Result) → fillTrees τ (byte 32 (part (treeArguments ts) (byte 32 (treeResult r)))) ≡ byte 32 (closing ts r (fills σ (join ts (resultTerms r))))
+  filled-rest : (ts : Terms) (r : Result) → fillTrees τ (byte 32 (bracket (treeArguments ts) (byte 32 (treeResult r)))) ≡ byte 32 (closing ts r (fills σ (join ts (resultTerms r))))
   unfolding fillTrees
   filled-rest ts r = ap (byte 32) (filled-closing ts r)
 
-  filled-method : (m : Term) (ts : Terms) (r : Result) → fillTrees τ (byte 32 (part (treeTerm m) (byte 32 (part (treeArguments ts) (byte 32 (treeResult r)))))) ≡ byte 32 (ahead (closing ts r) (fills σ (cons m (join ts (resultTerms r)))))
-  unfolding fillTrees ahead fills
-  filled-method m ts r = rw (tree-term σ m, ← filled-closing ts r)
+  filled-part : (p : Part) → fillTrees τ (byte 32 (treePart p)) ≡ byte 32 (parted p (fills σ (partTerms p)))
+  unfolding fillTrees closing treePart partTerms withPartTerms fills nth entryOr rest
+  filled-part (part a m ts r) = rw (tree-term σ m, filled-closing ts r)
+
+  alike-part : (p : Part) → All P (partTerms p) → (k : ℕ) → Alike σ P (λ us. count us ≡ count (partTerms p)) (parted p) (findTerms σ u (partTerms p) k) (findTrees τ (treeTerm u) (treePart p) k)
+  unfolding partTerms treePart count All findTrees mapFound
+  alike-part (part a m ts r) h k =
+      let us = join ts (resultTerms r) in
+      alike-as (parted (part a m ts r)) (a-part a m ts r) (alike-then m (h .0) us (closing ts r) (byte 32 (bracket (treeArguments ts) (byte 32 (treeResult r)))) (closing ts r (fills σ us)) (filled-rest ts r) refl (λ n. alike-tree (byte 32) (λ r. r) (alike-closing ts r (h .1) n)) k)
 
   alike-atom : (x : Atom) → All P (termsOf x) → (k : ℕ) → Alike σ P Any treeAtom (findAtom σ u x k) (findTree τ (treeTerm u) (treeAtom x) k)
   unfolding findAtom termsOf treeAtom findTrees first treeTerms texts count All
   alike-atom (link l t v) h k =
-      let ts = byte 32 (part (treeTerm t) (byte 32 (part (treeTerm v) end))) in
+      let ts = byte 32 (bracket (treeTerm t) (byte 32 (bracket (treeTerm v) end))) in
       alike-form (withTerms (link l t v)) (λ us q. (two-terms l t v us q, tt)) (alike-bracket (texts (bytes (linkWord l)) ts) (link-plain l ts) k (alike-texts {s = findTerms σ u (cons t (cons v nil))} (bytes (linkWord l)) ts (λ j. alike-tree (byte 32) (λ r. r)
-      (alike-then t (h .0) (cons v nil) first (byte 32 (part (treeTerm v) end)) (first (fills σ (cons v nil))) (filled-last v) refl (λ i. alike-tree (byte 32) (λ r. r) (alike-first (cons v nil) (h .1) i)) j)) k))
+      (alike-then t (h .0) (cons v nil) first (byte 32 (bracket (treeTerm v) end)) (first (fills σ (cons v nil))) (filled-last v) refl (λ i. alike-tree (byte 32) (λ r. r) (alike-first (cons v nil) (h .1) i)) j)) k))
   alike-atom (obj t) h k = alike-form (withTerms (obj t)) (λ us q. (an-object t us q, tt)) (alike-bracket (texts (bytes "obj ") (first (cons t nil))) refl k (alike-texts {s = findTerms σ u (cons t nil)} (bytes "obj ") (first (cons t nil)) (alike-first (cons t nil) h) k))
-  alike-atom (method a o m ts r) h k =
-      let rs = part (treeArguments ts) (byte 32 (treeResult r)) in
-      let us = join ts (resultTerms r) in
-      let vs = byte 32 (part (treeTerm o) (byte 32 (part (treeTerm m) (byte 32 rs)))) in
-      alike-form (withTerms (method a o m ts r)) (λ us q. (a-method a o m ts r us q, tt)) (alike-bracket (texts (bytes (arrowWord a)) vs) (arrow-plain a vs) k (alike-texts {s = findTerms σ u (cons o (cons m us))} (bytes (arrowWord a)) vs (λ j. alike-tree (byte 32) (λ r. r)
-      (alike-then o (h .0) (cons m us) (ahead (closing ts r)) (byte 32 (part (treeTerm m) (byte 32 rs))) (ahead (closing ts r) (fills σ (cons m us))) (filled-method m ts r) refl (λ i. alike-tree (byte 32) (λ r. r)
-      (alike-then m (h .1 .0) us (closing ts r) (byte 32 rs) (closing ts r (fills σ us)) (filled-rest ts r) refl (λ n. alike-tree (byte 32) (λ r. r) (alike-closing ts r (h .1 .1) n)) i)) j)) k))
+  alike-atom (arrows o p) h k =
+      let a = arrowOf p in
+      let vs = byte 32 (bracket (treeTerm o) (byte 32 (treePart p))) in
+      alike-form (withTerms (arrows o p)) (λ us q. (an-arrow o p us q, tt)) (alike-bracket (texts (bytes (arrowWord a)) vs) (arrow-plain a vs) k (alike-texts {s = findTerms σ u (cons o (partTerms p))} (bytes (arrowWord a)) vs (λ j. alike-tree (byte 32) (λ r. r)
+      (alike-then o (h .0) (partTerms p) (parted p) (byte 32 (treePart p)) (parted p (fills σ (partTerms p))) (filled-part p) refl (λ i. alike-tree (byte 32) (λ r. r) (alike-part p (h .1) i)) j)) k))
 
-  alone : {X : Type 0} {Q : X → Type 0} {tree : X → Tree} {s : Search X} (t : Tree) {g : Found Tree} → Alike σ P Q tree s g → Alike σ P Q (λ x. part (tree x) end) s (turn g (fillTree τ t) (findTrees τ (treeTerm u) end) (fillTrees τ end) (putInside end) part)
+  alone : {X : Type 0} {Q : X → Type 0} {tree : X → Tree} {s : Search X} (t : Tree) {g : Found Tree} → Alike σ P Q tree s g → Alike σ P Q (λ x. bracket (tree x) end) s (turn g (fillTree τ t) (findTrees τ (treeTerm u) end) (fillTrees τ end) (putInside end) bracket)
   unfolding turn findTrees fillTrees mapFound
   alone t (gone k) = gone k
-  alone t (there o w e p q y) = there o (λ r. w (putInside end r)) e p q (ap (λ z. part z end) y)
+  alone t (there o w e p q y) = there o (λ r. w (putInside end r)) e p q (ap (λ z. bracket z end) y)
 
   -- Both searches of a literal.
   pub alike-literal : (g : Sign) (x : Atom) → All P (termsOf x) → (k : ℕ) → Alike σ P Any treeLiteral (findLiteral σ u (lit g x) k) (findTree τ (treeTerm u) (treeLiteral (lit g x)) k)
   unfolding findLiteral treeLiteral findTrees
   alike-literal g x h k =
-      let ts = part (treeAtom x) end in
+      let ts = bracket (treeAtom x) end in
       alike-form (lit g) (λ y q. (refl, tt)) (alike-bracket (texts (bytes (signWord g)) (byte 32 ts)) (sign-plain g ts) k (alike-texts {s = findAtom σ u x} (bytes (signWord g)) (byte 32 ts) (λ j. alike-tree (byte 32) (λ r. r) (alone (treeAtom x) (alike-atom x h j))) k))

@@ -15,7 +15,7 @@ use Rattle.text.specs.Access.{skipItem, entryOf}
 use Rattle.text.proofs.Gives.{Gives, nothing, gives, strip-gives}
 use Rattle.text.proofs.Heads.{strip-same}
 use Rattle.text.proofs.Nesting.{skip-tree}
-use Rattle.text.proofs.Trees.{Tree, var, node, Trees, end, byte, part, putTree, Clean, Within, WithinIn, Below, treeTerm, put-term}
+use Rattle.text.proofs.Trees.{Tree, var, node, Trees, end, byte, bracket, putTree, Clean, Within, WithinIn, Below, treeTerm, put-term}
 use Rattle.filling.specs.Filled.{fillItem, plain, ground, itself, filledBy, matches, endsOf, itemDepth}
 use Rattle.filling.specs.Agree.{standsAt}
 use Rattle.filling.proofs.Filling.{fillTree, fillTrees, tree-front, tree-longer, after-it, fill-tree, trees}
@@ -47,7 +47,7 @@ mutual
   ground-trees : (σ : ℕ → Tree) {w : ℕ} → w ≡ 0 → (ts : Trees) (d : ℕ) → WithinIn (Below w) ts d → fillTrees σ ts ≡ ts
   ground-trees σ z end d h = refl
   ground-trees σ z (byte b ts) d h = ap (byte b) (ground-trees σ z ts d h)
-  ground-trees σ z (part t ts) d h = ap₂ part (ground-tree σ z t d (h .0)) (ground-trees σ z ts d (h .1))
+  ground-trees σ z (bracket t ts) d h = ap₂ bracket (ground-tree σ z t d (h .0)) (ground-trees σ z ts d (h .1))
 
 itself-tree : (t : Tree) → Clean t → (rest : List ℕ) → itself (putTree t rest) ≡ got (putTree t []) rest
 unfolding itself

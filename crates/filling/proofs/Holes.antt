@@ -13,7 +13,7 @@ use Rattle.text.specs.Read.{Parsed, bad, got, strip}
 use Rattle.text.specs.Access.{stood, beginsTerm, seek}
 use Rattle.text.proofs.Tests.{onTest}
 use Rattle.text.proofs.Plain.{number-plain, in-front}
-use Rattle.text.proofs.Trees.{Tree, var, node, Trees, end, byte, part, putTree, putInside, Inner, inner, Clean, CleanIn, Within, WithinIn, numberBytes, number-inner}
+use Rattle.text.proofs.Trees.{Tree, var, node, Trees, end, byte, bracket, putTree, putInside, Inner, inner, Clean, CleanIn, Within, WithinIn, numberBytes, number-inner}
 use Rattle.text.proofs.Nesting.{inner-tests, skip-tree}
 use Rattle.filling.specs.Filled.{Filler, prefixed, insideUpTo, inside, instead, fillItem}
 use Rattle.filling.proofs.Filling.{fillTree, fillTrees, tree-front, tree-longer, inside-grows, inside-part, not-variable, after-it, before-it, fill-tree, fill-inside}
@@ -38,8 +38,8 @@ abbrev pub applied : Trees → Bool
 applied end = false
 applied (byte b end) = false
 applied (byte b (byte x ts)) = eqb 102 b && eqb 32 x
-applied (byte b (part t ts)) = false
-applied (part t ts) = false
+applied (byte b (bracket t ts)) = false
+applied (bracket t ts) = false
 
 unfoldable mutual
   pub findTree : (ℕ → Tree) → Tree → Tree → ℕ → Found Tree
@@ -51,7 +51,7 @@ unfoldable mutual
   pub findTrees : (ℕ → Tree) → Tree → Trees → ℕ → Found Trees
   findTrees σ u end k = past k
   findTrees σ u (byte b ts) k = mapFound (byte b) (λ rest. rest) (findTrees σ u ts k)
-  findTrees σ u (part t ts) k = turn (findTree σ u t k) (fillTree σ t) (findTrees σ u ts) (fillTrees σ ts) (putInside ts) part
+  findTrees σ u (bracket t ts) k = turn (findTree σ u t k) (fillTree σ t) (findTrees σ u ts) (fillTrees σ ts) (putInside ts) bracket
 
 -- Where the search ends in the bytes.
 unfoldable pub onFound : {X : Type 0} → ℕ → List ℕ → Found X → Parsed (Unit {0})
@@ -84,10 +84,10 @@ begins-node ts c rest = rw (not-variable ts (c .0) rest) (go ts)
         both true true = refl
         both true false = refl
         both false z = refl
-    go (byte b (part (var n) ts)) = elim (eqb 102 b) as (λ y. stood (cond y bad bad) ≡ false) [ true ↦ refl | false ↦ refl ]
-    go (byte b (part (node us) ts)) = elim (eqb 102 b) as (λ y. stood (cond y bad bad) ≡ false) [ true ↦ refl | false ↦ refl ]
-    go (part (var n) ts) = refl
-    go (part (node us) ts) = refl
+    go (byte b (bracket (var n) ts)) = elim (eqb 102 b) as (λ y. stood (cond y bad bad) ≡ false) [ true ↦ refl | false ↦ refl ]
+    go (byte b (bracket (node us) ts)) = elim (eqb 102 b) as (λ y. stood (cond y bad bad) ≡ false) [ true ↦ refl | false ↦ refl ]
+    go (bracket (var n) ts) = refl
+    go (bracket (node us) ts) = refl
 
 begins-var : (n : ℕ) (rest : List ℕ) → beginsTerm (putTree (var n) rest) ≡ true
 unfolding beginsTerm stood putTree strip
@@ -119,9 +119,9 @@ map-found f n rest (found t w x) = refl
 
 -- The walk over the bytes finds what the search in the tree finds.
 module _ (σ : ℕ → Tree) (u : Tree) where
-  seek-turn : (n : ℕ) (rest : List ℕ) (ts : Trees) (t : Tree) (x : Found Tree) → ((k : ℕ) → seek k n (putInside ts rest) ≡ onFound n rest (findTrees σ u ts k)) → onFound n (putInside ts rest) x ≡ onFound n rest (turn x (fillTree σ t) (findTrees σ u ts) (fillTrees σ ts) (putInside ts) part)
+  seek-turn : (n : ℕ) (rest : List ℕ) (ts : Trees) (t : Tree) (x : Found Tree) → ((k : ℕ) → seek k n (putInside ts rest) ≡ onFound n rest (findTrees σ u ts k)) → onFound n (putInside ts rest) x ≡ onFound n rest (turn x (fillTree σ t) (findTrees σ u ts) (fillTrees σ ts) (putInside ts) bracket)
   unfolding onFound turn
-  seek-turn n rest ts t (past j) h = h j ∙ map-found (part (fillTree σ t)) n rest (findTrees σ u ts j)
+  seek-turn n rest ts t (past j) h = h j ∙ map-found (bracket (fillTree σ t)) n rest (findTrees σ u ts j)
   seek-turn n rest ts t (found s w x) h = refl
 
   seek-node : (ts : Trees) → Clean (node ts) → (k n : ℕ) (rest : List ℕ) → ((j : ℕ) → seek j (n + 1) (putInside ts (41 ∷ rest)) ≡ onFound (n + 1) (41 ∷ rest) (findTrees σ u ts j)) → (b : Bool) → applied ts ≡ b → seek k n (putTree (node ts) rest) ≡ onFound n rest (findTree σ u (node ts) k)
@@ -147,7 +147,7 @@ module _ (σ : ℕ → Tree) (u : Tree) where
     pub seek-inside : (ts : Trees) (k n : ℕ) → CleanIn ts → (rest : List ℕ) → seek k n (putInside ts rest) ≡ onFound n rest (findTrees σ u ts k)
     seek-inside end k n c rest = refl
     seek-inside (byte b ts) k n c rest = seek-bytes (b ∷ []) (c .0, tt) k n (putInside ts rest) ∙ seek-inside ts k n (c .1) rest ∙ map-found (byte b) n rest (findTrees σ u ts k)
-    seek-inside (part t ts) k n c rest = seek-tree t k n (c .0) (putInside ts rest) ∙ seek-turn n rest ts t (findTree σ u t k) (λ j. seek-inside ts j n (c .1) rest)
+    seek-inside (bracket t ts) k n c rest = seek-tree t k n (c .0) (putInside ts rest) ∙ seek-turn n rest ts t (findTree σ u t k) (λ j. seek-inside ts j n (c .1) rest)
 
 -- Filling with the tree u in place of what was found, where the depth allows D brackets more.
 unfoldable pub stack : ℕ → ℕ → ℕ
@@ -171,7 +171,7 @@ mutual
   pub within-in-stack : (P : ℕ → Type 0) (D : ℕ) (ts : Trees) (d : ℕ) → WithinIn P ts d → WithinIn P ts (stack D d)
   within-in-stack P D end d w = tt
   within-in-stack P D (byte b ts) d w = within-in-stack P D ts d w
-  within-in-stack P D (part t ts) d w = (within-stack P D t d (w .0), within-in-stack P D ts d (w .1))
+  within-in-stack P D (bracket t ts) d w = (within-stack P D t d (w .0), within-in-stack P D ts d (w .1))
 
 -- What is found in a tree, and in what stands in a bracket.
 pub record Held (f : Filler) (d : ℕ) (t s x : Tree) (w : Writer) (rest : List ℕ) : Type 0 where
@@ -229,7 +229,7 @@ module _ (f : Filler) (σ : ℕ → Tree) (P : ℕ → Type 0) (formed : (n : �
 
   module _ (t : Tree) (ts : Trees) (ct : Clean t) (cs : CleanIn ts) (d : ℕ) (wt : Within P t (stack D d)) (ws : WithinIn P ts (stack D d)) where
     -- found behind the first item
-    pub later-held : (y : Found Trees) → GoodIn f (stack D d) ts y → GoodIn f (stack D d) (part t ts) (mapFound (part (fillTree σ t)) (λ r. r) y)
+    pub later-held : (y : Found Trees) → GoodIn f (stack D d) ts y → GoodIn f (stack D d) (bracket t ts) (mapFound (bracket (fillTree σ t)) (λ r. r) y)
     unfolding mapFound putInside prefixed
     later-held (past j) g = tt
     later-held (found s w x) g = λ rest. record { longer = g rest .longer; inside = omega (arith, g rest .inside, tree-longer t (putInside ts rest)); filled = go rest }
@@ -240,7 +240,7 @@ module _ (f : Filler) (σ : ℕ → Tree) (P : ℕ → Type 0) (formed : (n : �
             inside-part (fillItem f (stack D d)) m t (putInside ts rest)
             ∙ rw (fill-tree f σ P formed entry t (stack D d) ct wt (putInside ts rest) (after-it (omega (arith, g rest .inside))), g rest .filled m more e (omega (arith, tree-longer t (putInside ts rest))) o, tree-front (fillTree σ t) (putInside x (41 ∷ [])))
 
-    pub part-held : (x : Found Tree) → Good f (stack D d) t x → ((j : ℕ) → GoodIn f (stack D d) ts (findTrees σ u ts j)) → GoodIn f (stack D d) (part t ts) (turn x (fillTree σ t) (findTrees σ u ts) (fillTrees σ ts) (putInside ts) part)
+    pub part-held : (x : Found Tree) → Good f (stack D d) t x → ((j : ℕ) → GoodIn f (stack D d) ts (findTrees σ u ts j)) → GoodIn f (stack D d) (bracket t ts) (turn x (fillTree σ t) (findTrees σ u ts) (fillTrees σ ts) (putInside ts) bracket)
     unfolding turn putInside prefixed
     part-held (past j) g h = later-held (findTrees σ u ts j) (h j)
     part-held (found s w x) g h = λ rest. record { longer = omega (arith, inside-grows ts rest, g (putInside ts rest) .longer); inside = g (putInside ts rest) .inside; filled = go rest }
@@ -269,4 +269,4 @@ module _ (f : Filler) (σ : ℕ → Tree) (P : ℕ → Type 0) (formed : (n : �
     pub hole-inside : (ts : Trees) (k d : ℕ) → CleanIn ts → WithinIn P ts d → GoodIn f (stack D d) ts (findTrees σ u ts k)
     hole-inside end k d c w = tt
     hole-inside (byte b ts) k d c w = byte-held b ts (c .0) (stack D d) (findTrees σ u ts k) (hole-inside ts k d (c .1) w)
-    hole-inside (part t ts) k d c w = part-held t ts (c .0) (c .1) d (within-stack P D t d (w .0)) (within-in-stack P D ts d (w .1)) (findTree σ u t k) (hole-tree t k d (c .0) (w .0)) (λ j. hole-inside ts j d (c .1) (w .1))
+    hole-inside (bracket t ts) k d c w = part-held t ts (c .0) (c .1) d (within-stack P D t d (w .0)) (within-in-stack P D ts d (w .1)) (findTree σ u t k) (hole-tree t k d (c .0) (w .0)) (λ j. hole-inside ts j d (c .1) (w .1))

@@ -7,7 +7,7 @@ use native.Mathlib.Omega.{arith}
 use lib.Dec.{T, ltb, leb→le, le→leb, ltb→lt, lt→ltb}
 use Rattle.logic.specs.declared.Sign.the-variants.{Positive}
 use Rattle.logic.specs.declared.Arrow.{Arrow}
-use Rattle.logic.specs.Syntax.{Term, var, app, Terms, nil, cons, Result, value, none, Atom, link, obj, method, lit}
+use Rattle.logic.specs.Syntax.{Term, var, app, Terms, nil, cons, Result, value, none, Part, part, Atom, link, obj, arrows, lit}
 use Rattle.logic.specs.Terms.{termsOf}
 use Rattle.logic.specs.Each.{eachTerm, eachTerms, eachAtom, atomOver, allowed, termWidth, termsWidth}
 use Rattle.logic.specs.Fill.{Substitution, fill, fills, fillAtom, fillLiteral, fillClause}
@@ -15,7 +15,7 @@ use Rattle.logic.proofs.Both.{left, right, both}
 use Rattle.logic.proofs.Ground.{each-fill, eachs-fill}
 use Rattle.logic.proofs.Over.{Over, fill-over}
 use Rattle.text.specs.Write.{putAtom}
-use Rattle.text.specs.Form.{formedNumber, numbered, numbereds, formedTerm, formedTerms, formedResult, formedAtom, formedLiteral, formedClause}
+use Rattle.text.specs.Form.{formedNumber, numbered, numbereds, formedTerm, formedTerms, formedResult, formedPart, formedAtom, formedLiteral, formedClause}
 use Rattle.text.proofs.Tests.{T-and}
 use Rattle.text.proofs.Unique.{atom-unique}
 use Rattle.text.proofs.Deep.{formedSymbol, each-numbered, eachs-numbered, numbered-each, numbereds-each, atomDepth, atom-formed, formed-over}
@@ -79,10 +79,14 @@ unfolding formedResult
 result-deeper d e a (value t) h f = term-deeper d e t h f
 result-deeper d e a none h f = f
 
+part-deeper : (d e : ℕ) (p : Part) → d ≤ e → T (formedPart d p) → T (formedPart e p)
+unfolding formedPart
+part-deeper d e (part a m ts r) h f =
+    let ((q, y), z) = simp T-and at f in
+    simp T-and ((term-deeper d e m h q, terms-deeper d e ts h y), result-deeper d e a r h z)
+
 pub atom-deeper : (d e : ℕ) (x : Atom) → d ≤ e → T (formedAtom d x) → T (formedAtom e x)
 unfolding formedAtom
 atom-deeper d e (link l t u) h f = let (m, n) = simp T-and at f in simp T-and (term-deeper d e t h m, term-deeper d e u h n)
 atom-deeper d e (obj t) h f = term-deeper d e t h f
-atom-deeper d e (method a o m ts r) h f =
-    let (((p, q), y), z) = simp T-and at f in
-    simp T-and (((term-deeper d e o h p, term-deeper d e m h q), terms-deeper d e ts h y), result-deeper d e a r h z)
+atom-deeper d e (arrows o p) h f = let (m, n) = simp T-and at f in simp T-and (term-deeper d e o h m, part-deeper d e p h n)

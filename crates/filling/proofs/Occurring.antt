@@ -6,18 +6,18 @@ use native.Mathlib.Omega.{arith}
 use lib.Dec.{T, leb→le, le→leb}
 use lib.ListN.{length}
 use Rattle.logic.specs.declared.Sign.{Sign}
-use Rattle.logic.specs.Syntax.{Term, app, Terms, nil, cons, Result, value, none, Atom, link, obj, method, Literal, lit}
-use Rattle.logic.specs.Terms.{join, resultTerms, termsOf}
+use Rattle.logic.specs.Syntax.{Term, app, Terms, nil, cons, Result, value, none, Part, part, Atom, link, obj, arrows, Literal, lit}
+use Rattle.logic.specs.Terms.{join, resultTerms, partTerms, termsOf}
 use Rattle.logic.specs.Each.{termWidth, termsWidth}
 use Rattle.logic.specs.Fill.{Substitution, fill}
 use Rattle.logic.specs.Occurrence.{Search, past, found, findLiteral}
 use Rattle.text.specs.Words.{bytes, signWord}
 use Rattle.text.specs.Write.{putTerm, putLiteral}
-use Rattle.text.specs.Form.{depthOf, depthOfs, numbered, numbereds, formedTerm, formedTerms, formedResult, formedAtom}
+use Rattle.text.specs.Form.{depthOf, depthOfs, numbered, numbereds, formedTerm, formedTerms, formedResult, formedPart, formedAtom}
 use Rattle.text.specs.Read.{Parsed, bad, got, strip}
 use Rattle.text.specs.Access.{seek, toOccurrence}
 use Rattle.text.proofs.Tests.{T-and}
-use Rattle.text.proofs.Trees.{join-width, Tree, node, Trees, end, byte, part, putTree, texts, Clean, Below, treeTerm, treeAtom, treeLiteral, put-term, put-literal, clean-literal, within-literal}
+use Rattle.text.proofs.Trees.{join-width, Tree, node, Trees, end, byte, bracket, putTree, texts, Clean, Below, treeTerm, treeAtom, treeLiteral, put-term, put-literal, clean-literal, within-literal}
 use Rattle.filling.specs.Filled.{Filler, fillItem}
 use Rattle.filling.proofs.Filling.{given-entry, trees}
 use Rattle.filling.proofs.Holes.{Found, past as passed, found as spotted, mapFound, findTrees, onFound, seek-inside, Good, hole-tree, stack}
@@ -58,18 +58,22 @@ unfolding All join
 all-of-join P nil us h k = k
 all-of-join P (cons t ts) us h k = (h .0, all-of-join P ts us (h .1) k)
 
-small-atom : (w d : ℕ) (x : Atom) → T (formedAtom d x) → termsWidth (termsOf x) ≤ w → All (Small w d) (termsOf x)
-unfolding All formedAtom formedResult termsOf resultTerms termsWidth
-small-atom w d (link l t u) f h = let (a, b) = simp T-and at f in ((a, omega arith), ((b, omega arith), tt))
-small-atom w d (obj t) f h = ((f, omega arith), tt)
-small-atom w d (method a o m ts r) f h =
-    let ((p, g), k) = simp T-and at f in
+small-part : (w d : ℕ) (p : Part) → T (formedPart d p) → termsWidth (partTerms p) ≤ w → All (Small w d) (partTerms p)
+unfolding All formedPart formedResult partTerms resultTerms termsWidth
+small-part w d (part a m ts r) f h =
+    let ((g, k), i) = simp T-and at f in
     let j = join-width ts (resultTerms r) in
-    ((p .0, omega arith), ((p .1, omega arith), all-of-join (Small w d) ts (resultTerms r) (all-small w d ts g (omega arith)) (result r k (omega arith))))
+    ((g, omega arith), all-of-join (Small w d) ts (resultTerms r) (all-small w d ts k (omega arith)) (result r i (omega arith)))
   where
     result : (r : Result) → T (formedResult d a r) → termsWidth (resultTerms r) ≤ w → All (Small w d) (resultTerms r)
     result (value t) f h = ((f, omega arith), tt)
     result none f h = tt
+
+small-atom : (w d : ℕ) (x : Atom) → T (formedAtom d x) → termsWidth (termsOf x) ≤ w → All (Small w d) (termsOf x)
+unfolding All formedAtom termsOf termsWidth
+small-atom w d (link l t u) f h = let (a, b) = simp T-and at f in ((a, omega arith), ((b, omega arith), tt))
+small-atom w d (obj t) f h = ((f, omega arith), tt)
+small-atom w d (arrows o p) f h = let (a, b) = simp T-and at f in ((a, omega arith), small-part w d p b (omega arith))
 
 -- What the search for occurrence k says of the bytes of a literal that is followed by `rest`, and of filling with the hole there.
 pub data Occurs (f : Filler) (σ : Substitution) (w d depth k : ℕ) (l : Literal) (rest : List ℕ) : Search Literal → Type 0 where
@@ -90,8 +94,8 @@ module _ (f : Filler) (σ : Substitution) (w d D : ℕ) (entry : (n : ℕ) → n
   pub occurs : (g : Sign) (x : Atom) → T (formedAtom d x) → termsWidth (termsOf x) ≤ w → (k : ℕ) (rest : List ℕ) → Occurs f σ w d (stack D (suc (suc (suc d)))) k (lit g x) rest (findLiteral σ u (lit g x) k)
   unfolding treeLiteral
   occurs g x fx wx k rest =
-      let ts = texts (bytes (signWord g)) (byte 32 (part (treeAtom x) end)) in
+      let ts = texts (bytes (signWord g)) (byte 32 (bracket (treeAtom x) end)) in
       occurs-as k (lit g x) rest
-      (rw (put-literal (lit g x) rest, in-bracket σ u ts (sign-plain g (part (treeAtom x) end)) k) (occurrence-in (trees σ) (treeTerm u) ts (clean-literal (lit g x)) k rest))
+      (rw (put-literal (lit g x) rest, in-bracket σ u ts (sign-plain g (bracket (treeAtom x) end)) k) (occurrence-in (trees σ) (treeTerm u) ts (clean-literal (lit g x)) k rest))
       (hole-tree f (trees σ) (Below w) (λ n b. b .0) (given-entry f σ w d entry) (treeTerm u) D given-new (treeLiteral (lit g x)) k (suc (suc (suc d))) (clean-literal (lit g x)) (within-literal w d g x fx wx))
       (alike-literal σ u (Small w d) (small-parts w d) g x (small-atom w d x fx wx) k)

@@ -8,7 +8,7 @@ use Rattle.text.specs.Words.{bytes, signWord}
 use Rattle.text.specs.Write.{Writer}
 use Rattle.text.specs.Form.{formedNumber}
 use Rattle.text.specs.Read.{got}
-use Rattle.text.proofs.Trees.{Tree, var, node, Trees, end, byte, part, putTree, putInside, texts, Clean, CleanIn, Within, WithinIn}
+use Rattle.text.proofs.Trees.{Tree, var, node, Trees, end, byte, bracket, putTree, putInside, texts, Clean, CleanIn, Within, WithinIn}
 use Rattle.filling.specs.Filled.{Filler}
 use Rattle.filling.proofs.Filling.{fillTree, fillTrees}
 use Rattle.filling.proofs.Holes.{Found, past, found, mapFound, turn, findTrees, Good, GoodIn, hole-inside, whole-held, node-held, byte-held, later-held, part-held, stack, within-stack, within-in-stack}
@@ -21,8 +21,8 @@ mutual
 
   pub data SpotIn : Trees → Type 0 where
     skip : {b : ℕ} {ts : Trees} → SpotIn ts → SpotIn (byte b ts)
-    now : {t : Tree} {ts : Trees} → Spot t → SpotIn (part t ts)
-    later : {t : Tree} {ts : Trees} → SpotIn ts → SpotIn (part t ts)
+    now : {t : Tree} {ts : Trees} → Spot t → SpotIn (bracket t ts)
+    later : {t : Tree} {ts : Trees} → SpotIn ts → SpotIn (bracket t ts)
 
 -- What stands there, what follows it, and the filled whole with u there.
 unfoldable mutual
@@ -32,8 +32,8 @@ unfoldable mutual
 
   pub spotIn : (ℕ → Tree) → Tree → {ts : Trees} → SpotIn ts → Found Trees
   spotIn σ u (skip {b} p) = mapFound (byte b) (λ rest. rest) (spotIn σ u p)
-  spotIn σ u (now {t} {ts} p) = turn (spot σ u p) (fillTree σ t) (findTrees σ u ts) (fillTrees σ ts) (putInside ts) part
-  spotIn σ u (later {t} p) = mapFound (part (fillTree σ t)) (λ rest. rest) (spotIn σ u p)
+  spotIn σ u (now {t} {ts} p) = turn (spot σ u p) (fillTree σ t) (findTrees σ u ts) (fillTrees σ ts) (putInside ts) bracket
+  spotIn σ u (later {t} p) = mapFound (bracket (fillTree σ t)) (λ rest. rest) (spotIn σ u p)
 
 -- The tree with the hole at a spot.
 module _ (f : Filler) (σ : ℕ → Tree) (P : ℕ → Type 0) (formed : (n : ℕ) → P n → T (formedNumber n)) (entry : (n : ℕ) → P n → f .entry n ≡ putTree (σ n) []) (u : Tree) (D : ℕ) (new : (e : ℕ) → D ≤ e → (r : List ℕ) × (f .new e ≡ got (putTree u []) r)) where
@@ -80,10 +80,10 @@ module _ (σ : ℕ → Tree) (u : Tree) where
   spot-skips (b ∷ bs) p = rw (spot-skips bs p) (twice (texts bs) (byte b) (spotIn σ u p))
 
 -- Spots of a literal's atom, from those of what stands in the atom behind its word.
-pub atom-spot : (g : Sign) (word : List ℕ) {ts : Trees} → SpotIn ts → Spot (node (texts (bytes (signWord g)) (byte 32 (part (node (texts word ts)) end))))
+pub atom-spot : (g : Sign) (word : List ℕ) {ts : Trees} → SpotIn ts → Spot (node (texts (bytes (signWord g)) (byte 32 (bracket (node (texts word ts)) end))))
 atom-spot g word p = within (skips (bytes (signWord g)) (skip (now (within (skips word p)))))
 
 module _ (σ : ℕ → Tree) (u : Tree) where
-  pub spot-atom : (g : Sign) (word : List ℕ) {ts : Trees} (p : SpotIn ts) {t : Tree} {w : Writer} {x : Trees} → spotIn σ u p ≡ found t w x → spot σ u (atom-spot g word p) ≡ found t (λ rest. w (41 ∷ 41 ∷ rest)) (node (texts (bytes (signWord g)) (byte 32 (part (node (texts word x)) end))))
+  pub spot-atom : (g : Sign) (word : List ℕ) {ts : Trees} (p : SpotIn ts) {t : Tree} {w : Writer} {x : Trees} → spotIn σ u p ≡ found t w x → spot σ u (atom-spot g word p) ≡ found t (λ rest. w (41 ∷ 41 ∷ rest)) (node (texts (bytes (signWord g)) (byte 32 (bracket (node (texts word x)) end))))
   unfolding atom-spot spot mapFound turn fillTrees putInside
   spot-atom g word p e = rw (spot-skips σ u (bytes (signWord g)) (skip (now (within (skips word p)))), spot-skips σ u word p, e)

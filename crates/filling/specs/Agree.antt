@@ -18,8 +18,12 @@ agreeAt depth p x line starts q y others =
     let both = within p (endsOf p q (sameItem (plain line starts) (plain line others) (itemDepth depth) (drop x p) (drop y q)) .at) in
     cond (ground others) (standsAt depth p x line starts q y) (cond (ground starts) (standsAt depth q y line others p x) both)
 
+-- R18, "same .. argument count, .. method, arguments", the methods at x and y
+unfoldable pub partsAt : ℕ → List ℕ → ℕ → List ℕ → List ℕ → List ℕ → ℕ → List ℕ → Bool
+partsAt depth p x line starts q y others =
+    agreeAt depth p x line starts q y others && agreeAt depth p (nextAt p x) line starts q (nextAt q y) others
+
 -- R18, "same .. argument count, object, method, arguments", the objects at x and y
 unfoldable pub callsAt : ℕ → List ℕ → ℕ → List ℕ → List ℕ → List ℕ → ℕ → List ℕ → Bool
 callsAt depth p x line starts q y others =
-    let at : ℕ → ℕ → Bool = λ u v. agreeAt depth p u line starts q v others in
-    at x y && (at (nextAt p x) (nextAt q y) && at (nextAt p (nextAt p x)) (nextAt q (nextAt q y)))
+    agreeAt depth p x line starts q y others && partsAt depth p (nextAt p x) line starts q (nextAt q y) others

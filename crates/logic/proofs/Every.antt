@@ -4,13 +4,12 @@ use mathlib.Core.Bool.{Bool, true, false}
 use mathlib.Core.List.{List}
 use lib.Dec.{T}
 use Rattle.logic.specs.declared.Link.the-variants.{Eq, Mem, Sub}
-use Rattle.logic.specs.Syntax.{Result, Atom, link, obj, method, mayBeNone}
+use Rattle.logic.specs.Syntax.{Result, Part, part, Atom, link, obj, arrows, mayBeNone}
 use Rattle.logic.specs.Terms.{resultTerms}
-use Rattle.logic.specs.Each.{eachTerms, eachTerm, eachAtom, atomOver, declares, never, groundTerm, groundAtom, allowed, allowedResult}
-use Rattle.logic.specs.Rules.{bare, bareResult}
+use Rattle.logic.specs.Each.{eachTerms, eachTerm, atomOver, declares, never, groundTerm, groundAtom, allowedPart, allowedResult}
+use Rattle.logic.specs.Rules.{bareResult, barePart, bare}
 use Rattle.logic.specs.Structure.{Structure}
-use Rattle.logic.proofs.Both.{left}
-use Rattle.logic.proofs.Parts.{link-parts, link-over, obj-over, arrow-parts, arrow-over, method-parts, method-over, object-over, argument-over, replaced-over}
+use Rattle.logic.proofs.Parts.{link-parts, link-over, obj-over, PartOver, arrow-parts, arrow-over, part-parts, part-over, method-parts, method-over, object-over, argument-over, replaced-over}
 
 module _ (p : ℕ → Bool) (s : ℕ → ℕ → Bool) where
   bare-result : (b : Bool) (r : Result) → T (allowedResult b r) → T (eachTerms p s (resultTerms r)) →
@@ -19,14 +18,18 @@ module _ (p : ℕ → Bool) (s : ℕ → ℕ → Bool) where
   bare-result true r h w = (tt, tt)
   bare-result false r h w = (h, w)
 
+  bare-part : (q : Part) → PartOver p s q → PartOver p s (barePart q)
+  unfolding barePart allowedPart
+  bare-part (part a m ts r) h =
+      let w = part-parts p s a m ts r h in
+      let k = bare-result (mayBeNone a) r (h .0) (w .2) in
+      part-over p s a m ts (bareResult (mayBeNone a) r) (k .0) (w .0, w .1, k .1)
+
   bare-over : (x : Atom) → T (atomOver p s x) → T (atomOver p s (bare x))
-  unfolding bare atomOver allowed
+  unfolding bare
   bare-over (link l t u) h = h
   bare-over (obj t) h = h
-  bare-over (method a o m ts r) h =
-      let w = arrow-parts p s a o m ts r h in
-      let k = bare-result (mayBeNone a) r (left (allowedResult (mayBeNone a) r) (eachAtom p s (method a o m ts r)) h) (w .3) in
-      arrow-over p s a o m ts (bareResult (mayBeNone a) r) (k .0) (w .0, w .1, w .2, k .1)
+  bare-over (arrows o q) h = let w = arrow-parts p s o q h in arrow-over p s o (barePart q) (w .0) (bare-part q (w .1))
 
 pub everything : (table : List ℕ) → Structure table (λ x. T (groundAtom table x))
 unfolding groundTerm groundAtom

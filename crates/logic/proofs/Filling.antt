@@ -4,10 +4,10 @@ use mathlib.Core.Bool.{Bool, true, false}
 use mathlib.Core.List.{[], _∷_, _++_}
 use mathlib.Core.Path.{_≡_, refl, ap, ap₂, _∙_}
 use native.Mathlib.Omega.{arith}
-use Rattle.logic.specs.Syntax.{Term, var, app, Terms, nil, cons, Result, value, none, Atom, link, obj, method, Literal, lit, Clause, mayBeNone}
-use Rattle.logic.specs.Terms.{count, nth, entryOr, join, resultTerms, termsOf, front, rest, withResult, withTerms}
-use Rattle.logic.specs.Fill.{Substitution, fill, fills, fillResult, fillAtom, fillLiteral, fillClause}
-use Rattle.logic.specs.Rules.{bare, bareResult}
+use Rattle.logic.specs.Syntax.{Term, var, app, Terms, nil, cons, Result, value, none, Part, part, arrowOf, Atom, link, obj, arrows, Literal, lit, Clause, mayBeNone}
+use Rattle.logic.specs.Terms.{count, nth, entryOr, join, resultTerms, partTerms, termsOf, front, rest, withResult, withPartTerms, withTerms}
+use Rattle.logic.specs.Fill.{Substitution, fill, fills, fillResult, fillPart, fillAtom, fillLiteral, fillClause}
+use Rattle.logic.specs.Rules.{bareResult, barePart, bare}
 
 -- First σ, then γ.
 unfoldable pub compose : Substitution → Substitution → Substitution
@@ -30,11 +30,15 @@ module _ (γ σ : Substitution) where
   result-fill (value t) = ap value (fill-fill t)
   result-fill none = refl
 
+  part-fill : (p : Part) → fillPart γ (fillPart σ p) ≡ fillPart (compose γ σ) p
+  unfolding fillPart
+  part-fill (part a m ts r) = rw (fill-fill m, fills-fills ts, result-fill r)
+
   pub atom-fill : (x : Atom) → fillAtom γ (fillAtom σ x) ≡ fillAtom (compose γ σ) x
   unfolding fillAtom
   atom-fill (link l t u) = ap₂ (link l) (fill-fill t) (fill-fill u)
   atom-fill (obj t) = ap obj (fill-fill t)
-  atom-fill (method a o m ts r) = rw (fill-fill o, fill-fill m, fills-fills ts, result-fill r)
+  atom-fill (arrows o p) = ap₂ arrows (fill-fill o) (part-fill p)
 
   literal-fill : (l : Literal) → fillLiteral γ (fillLiteral σ l) ≡ fillLiteral (compose γ σ) l
   unfolding fillLiteral
@@ -66,11 +70,19 @@ module _ (γ : Substitution) where
   result-terms (value t) = refl
   result-terms none = refl
 
+  pub arrow-fill : (p : Part) → arrowOf (fillPart γ p) ≡ arrowOf p
+  unfolding fillPart
+  arrow-fill (part a m ts r) = refl
+
+  part-terms : (p : Part) → fills γ (partTerms p) ≡ partTerms (fillPart γ p)
+  unfolding partTerms fillPart fill
+  part-terms (part a m ts r) = ap (cons (fill γ m)) (join-fill ts (resultTerms r) ∙ ap (join (fills γ ts)) (result-terms r))
+
   pub terms-fill : (x : Atom) → fills γ (termsOf x) ≡ termsOf (fillAtom γ x)
   unfolding termsOf fillAtom fill
   terms-fill (link l t u) = refl
   terms-fill (obj t) = refl
-  terms-fill (method a o m ts r) = ap (λ us. cons (fill γ o) (cons (fill γ m) us)) (join-fill ts (resultTerms r) ∙ ap (join (fills γ ts)) (result-terms r))
+  terms-fill (arrows o p) = ap (cons (fill γ o)) (part-terms p)
 
   nth-fill : (ts : Terms) (n : ℕ) → fill γ (nth ts n) ≡ nth (fills γ ts) n
   unfolding nth entryOr fill
@@ -95,23 +107,31 @@ module _ (γ : Substitution) where
   with-result-fill (value t) us = ap value (nth-fill us 0)
   with-result-fill none us = refl
 
-  -- Filling an atom with other terms in place.
+  -- Filling a part, an atom with other terms in place.
+  with-part-fill : (p : Part) (us : Terms) → fillPart γ (withPartTerms p us) ≡ withPartTerms (fillPart γ p) (fills γ us)
+  unfolding withPartTerms fillPart
+  with-part-fill (part a m ts r) us = simp (nth-fill, front-fill, rest-fill, with-result-fill, count-fill)
+
   pub with-fill : (x : Atom) (us : Terms) → fillAtom γ (withTerms x us) ≡ withTerms (fillAtom γ x) (fills γ us)
   unfolding withTerms fillAtom
   with-fill (link l t u) us = ap₂ (link l) (nth-fill us 0) (nth-fill us 1)
   with-fill (obj t) us = ap obj (nth-fill us 0)
-  with-fill (method a o m ts r) us = simp (nth-fill, front-fill, rest-fill, with-result-fill, count-fill)
+  with-fill (arrows o p) us = simp (nth-fill, rest-fill, with-part-fill)
 
   bare-result-fill : (b : Bool) (r : Result) → fillResult γ (bareResult b r) ≡ bareResult b (fillResult γ r)
   unfolding bareResult fillResult
   bare-result-fill true r = refl
   bare-result-fill false r = refl
 
+  bare-part-fill : (p : Part) → fillPart γ (barePart p) ≡ barePart (fillPart γ p)
+  unfolding barePart fillPart
+  bare-part-fill (part a m ts r) = ap (part a (fill γ m) (fills γ ts)) (bare-result-fill (mayBeNone a) r)
+
   pub bare-fill : (x : Atom) → fillAtom γ (bare x) ≡ bare (fillAtom γ x)
   unfolding bare fillAtom
   bare-fill (link l t u) = refl
   bare-fill (obj t) = refl
-  bare-fill (method a o m ts r) = ap (method a (fill γ o) (fill γ m) (fills γ ts)) (bare-result-fill (mayBeNone a) r)
+  bare-fill (arrows o p) = ap (arrows (fill γ o)) (bare-part-fill p)
 
 -- Of the atom itself, only its word and its numbers of terms matter to what other terms in place make of it.
 module _ (σ : Substitution) where
@@ -120,11 +140,15 @@ module _ (σ : Substitution) where
   result-frame (value t) us = refl
   result-frame none us = refl
 
+  part-frame : (p : Part) (us : Terms) → withPartTerms (fillPart σ p) us ≡ withPartTerms p us
+  unfolding withPartTerms fillPart
+  part-frame (part a m ts r) us = simp (count-fill, result-frame)
+
   pub with-frame : (x : Atom) (us : Terms) → withTerms (fillAtom σ x) us ≡ withTerms x us
   unfolding withTerms fillAtom
   with-frame (link l t u) us = refl
   with-frame (obj t) us = refl
-  with-frame (method a o m ts r) us = simp (count-fill, result-frame)
+  with-frame (arrows o p) us = ap (arrows (nth us 0)) (part-frame p (rest 1 us))
 
 -- An atom with its own terms in place is itself; an atom with other terms in place has those terms.
 front-join : (ts us : Terms) → front (count ts) (join ts us) ≡ ts
@@ -142,11 +166,15 @@ unfolding withResult resultTerms nth entryOr
 result-own (value t) = refl
 result-own none = refl
 
+part-own : (p : Part) → withPartTerms p (partTerms p) ≡ p
+unfolding withPartTerms partTerms nth entryOr rest
+part-own (part a m ts r) = rw (front-join ts (resultTerms r), rest-join ts (resultTerms r), result-own r)
+
 pub with-own : (x : Atom) → withTerms x (termsOf x) ≡ x
 unfolding withTerms termsOf nth entryOr rest
 with-own (link l t u) = refl
 with-own (obj t) = refl
-with-own (method a o m ts r) = rw (front-join ts (resultTerms r), rest-join ts (resultTerms r), result-own r)
+with-own (arrows o p) = ap (arrows o) (part-own p)
 
 -- As many terms as the atom has.
 abbrev pub Fits : Atom → Terms → Type 0
@@ -167,6 +195,11 @@ arguments-have nil r us e = result-has r us e
 arguments-have (cons t ts) r nil e = absurd (omega arith)
 arguments-have (cons t ts) r (cons u us) e = ap (cons u) (arguments-have ts r us (omega arith))
 
+part-has : (p : Part) (us : Terms) → count us ≡ count (partTerms p) → partTerms (withPartTerms p us) ≡ us
+unfolding partTerms withPartTerms count nth entryOr rest
+part-has (part a m ts r) nil e = absurd (omega arith)
+part-has (part a m ts r) (cons v us) e = ap (cons v) (arguments-have ts r us (omega arith))
+
 pub with-has : (x : Atom) (us : Terms) → Fits x us → termsOf (withTerms x us) ≡ us
 unfolding termsOf withTerms count nth entryOr rest
 with-has (link l t u) nil e = absurd (omega arith)
@@ -176,9 +209,8 @@ with-has (link l t u) (cons v (cons w (cons z us))) e = absurd (omega arith)
 with-has (obj t) nil e = absurd (omega arith)
 with-has (obj t) (cons v nil) e = refl
 with-has (obj t) (cons v (cons w us)) e = absurd (omega arith)
-with-has (method a o m ts r) nil e = absurd (omega arith)
-with-has (method a o m ts r) (cons v nil) e = absurd (omega arith)
-with-has (method a o m ts r) (cons v (cons w us)) e = ap (λ vs. cons v (cons w vs)) (arguments-have ts r us (omega arith))
+with-has (arrows o p) nil e = absurd (omega arith)
+with-has (arrows o p) (cons v us) e = ap (cons v) (part-has p us (omega arith))
 
 count-front : (ts : Terms) (r : Result) (us : Terms) → count us ≡ count (join ts (resultTerms r)) → count (front (count ts) us) ≡ count ts
 unfolding join front count
@@ -192,12 +224,16 @@ result-twice (value t) us vs = refl
 result-twice none us vs = refl
 
 -- The terms put in last count.
+part-twice : (p : Part) (us vs : Terms) → count us ≡ count (partTerms p) → withPartTerms (withPartTerms p us) vs ≡ withPartTerms p vs
+unfolding withPartTerms partTerms count rest
+part-twice (part a m ts r) nil vs e = absurd (omega arith)
+part-twice (part a m ts r) (cons v us) vs e =
+    let h : count (front (count ts) us) ≡ count ts = count-front ts r us (omega arith) in
+    rw (h, result-twice r (rest (count ts) us) (rest (count ts) (rest 1 vs)))
+
 pub with-twice : (x : Atom) (us vs : Terms) → Fits x us → withTerms (withTerms x us) vs ≡ withTerms x vs
 unfolding withTerms termsOf count rest
 with-twice (link l t u) us vs e = refl
 with-twice (obj t) us vs e = refl
-with-twice (method a o m ts r) nil vs e = absurd (omega arith)
-with-twice (method a o m ts r) (cons v nil) vs e = absurd (omega arith)
-with-twice (method a o m ts r) (cons v (cons w us)) vs e =
-    let h : count (front (count ts) us) ≡ count ts = count-front ts r us (omega arith) in
-    rw (h, result-twice r (rest (count ts) us) (rest (count ts) (rest 2 vs)))
+with-twice (arrows o p) nil vs e = absurd (omega arith)
+with-twice (arrows o p) (cons v us) vs e = ap (arrows (nth vs 0)) (part-twice p us (rest 1 vs) (omega arith))

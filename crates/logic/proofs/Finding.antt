@@ -40,7 +40,7 @@ module _ (σ : Substitution) (u : Term) where
     found-replaced (var n) zero e = at-once e
     found-replaced (var n) (suc k) e = not-past e
     found-replaced (app f ts) zero e = at-once e
-    found-replaced (app f ts) (suc k) e = found-map (app f) (findTerms σ u ts k) e (λ us e₁ e₂. rw (← e₂) (Replaced.part (founds-replaced ts k e₁)))
+    found-replaced (app f ts) (suc k) e = found-map (app f) (findTerms σ u ts k) e (λ us e₁ e₂. rw (← e₂) (Replaced.inside (founds-replaced ts k e₁)))
 
     founds-replaced : {s : Term} {us : Terms} (ts : Terms) (k : ℕ) → findTerms σ u ts k ≡ found s us → Replaced s u (fills σ ts) us
     founds-replaced nil k e = not-past e
@@ -54,12 +54,12 @@ module _ {a b : Term} where
   pub replaced-count : {ts us : Terms} → Replaced a b ts us → count us ≡ count ts
   unfolding count
   replaced-count Replaced.here = refl
-  replaced-count (Replaced.part p) = refl
+  replaced-count (Replaced.inside p) = refl
   replaced-count (Replaced.later p) = ap suc (replaced-count p)
 
   replaced-back : {ts us : Terms} → Replaced a b ts us → Replaced b a us ts
   replaced-back Replaced.here = Replaced.here
-  replaced-back (Replaced.part p) = Replaced.part (replaced-back p)
+  replaced-back (Replaced.inside p) = Replaced.inside (replaced-back p)
   replaced-back (Replaced.later p) = Replaced.later (replaced-back p)
 
 pub atom-back : (a b : Term) (x y : Atom) → ReplacedAtom a b x y → ReplacedAtom b a y x

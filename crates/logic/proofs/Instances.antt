@@ -7,7 +7,7 @@ use Rattle.logic.specs.declared.Link.the-variants.{Eq}
 use Rattle.logic.specs.declared.Rule.{Rule}
 use Rattle.logic.specs.declared.Rule.the-variants.{Par}
 use Rattle.logic.specs.Syntax.{Term, Terms, link, Literal, Clause}
-use Rattle.logic.specs.Fill.{Substitution, fill, fills, fillResult, fillAtom, fillLiteral, fillClause}
+use Rattle.logic.specs.Fill.{Substitution, fill, fills, fillResult, fillPart, fillAtom, fillLiteral, fillClause}
 use Rattle.logic.specs.Occurrence.{Search, found, findLiteral}
 use Rattle.logic.specs.Rules.{Covers, Agreement, always, equal, covering, Call, call, alike, Holds, Placed, plus, one, Row, Parent, filled, At, Infers}
 use Rattle.logic.proofs.Filling.{compose, clause-fill, clause-append, bare-fill}
@@ -54,7 +54,7 @@ module _ (γ : Substitution) where
 
   row-fill : {k : ℕ} {rule : Rule} {l m : Literal} {g : Agreement} {new : Clause} →
       Row k rule l m g new → Row k rule (fillLiteral γ l) (fillLiteral γ m) (fillAgreement γ g) (fillClause γ new)
-  unfolding fillClause fillLiteral fillAtom fillCall fillAgreement fill fillResult
+  unfolding fillClause fillLiteral fillAtom fillPart fillCall fillAgreement fill fillResult
   row-fill Row.res = Row.res
   row-fill Row.acy = Row.acy
   row-fill Row.tra = Row.tra

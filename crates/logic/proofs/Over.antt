@@ -5,9 +5,9 @@ use mathlib.Core.List.{[], _∷_, _++_}
 use mathlib.Core.Path.{_≡_, refl, subst}
 use lib.Dec.{T}
 use Rattle.logic.specs.declared.Rule.{Rule}
-use Rattle.logic.specs.Syntax.{Term, Result, value, none, Atom, link, obj, method, Literal, lit, Clause, mayBeNone}
-use Rattle.logic.specs.Each.{eachTerm, eachAtom, eachClause, atomOver, allowed, allowedResult, allowedClause}
-use Rattle.logic.specs.Fill.{Substitution, fillResult, fillAtom, fillLiteral, fillClause}
+use Rattle.logic.specs.Syntax.{Term, Result, value, none, Part, part, Atom, link, obj, arrows, Literal, lit, Clause, mayBeNone}
+use Rattle.logic.specs.Each.{eachTerm, eachAtom, eachClause, atomOver, allowed, allowedPart, allowedResult, allowedClause}
+use Rattle.logic.specs.Fill.{Substitution, fillResult, fillPart, fillAtom, fillLiteral, fillClause}
 use Rattle.logic.specs.Occurrence.{found, findAtom, findLiteral}
 use Rattle.logic.specs.Rules.{Agreement, Row, Parent, filled, At, Infers}
 use Rattle.logic.proofs.Both.{left, right, both}
@@ -71,11 +71,15 @@ unfolding allowedResult fillResult
 result-kind b σ (value t) = refl
 result-kind b σ none = refl
 
+part-kind : (σ : Substitution) (p : Part) → allowedPart (fillPart σ p) ≡ allowedPart p
+unfolding allowedPart fillPart
+part-kind σ (part a m ts r) = result-kind (mayBeNone a) σ r
+
 fill-allowed : (σ : Substitution) (x : Atom) → allowed (fillAtom σ x) ≡ allowed x
 unfolding allowed fillAtom
 fill-allowed σ (link l t u) = refl
 fill-allowed σ (obj t) = refl
-fill-allowed σ (method a o m ts r) = result-kind (mayBeNone a) σ r
+fill-allowed σ (arrows o p) = part-kind σ p
 
 pub fill-over : (p q : ℕ → Bool) (s : ℕ → ℕ → Bool) (σ : Substitution) → ((v : ℕ) → T (p v) → T (eachTerm q s (σ v))) → (c : Clause) → Over p s c → Over q s (fillClause σ c)
 unfolding Over fillClause fillLiteral atomOver

@@ -10,9 +10,9 @@ use Rattle.logic.specs.declared.Link.the-variants.{Mem, Sub}
 use Rattle.logic.specs.declared.Arrow.{Arrow}
 use Rattle.logic.specs.declared.Rule.{Rule}
 use Rattle.logic.specs.declared.Rule.the-variants.{Refl, Res, Fac, Par, Acy, Tra, Inc, Inh, Inp, Out, Sca, Eli}
-use Rattle.logic.specs.Syntax.{Term, Terms, nil, cons, Result, value, none, Atom, link, obj, method, Literal, lit}
+use Rattle.logic.specs.Syntax.{Term, Terms, nil, cons, Result, value, none, part, Atom, link, obj, arrows, method, Literal, lit}
 use Rattle.logic.specs.Equality.{link?}
-use Rattle.logic.specs.Fill.{Substitution, fill, fills, fillResult, fillAtom, fillLiteral}
+use Rattle.logic.specs.Fill.{Substitution, fill, fills, fillResult, fillPart, fillAtom, fillLiteral}
 use Rattle.logic.specs.Rules.{equal, signature, plus, one}
 use Rattle.logic.specs.Judge.{Conclusion, misshapen, concludes, onPlus, onLink, onResult, onMethod, onPlaced, onSub, onSignature, conclude-link, conclude-inh, conclude-inp, conclude-out, tableRow}
 
@@ -44,7 +44,7 @@ rewrite k forward σ (hits t) m =
 unfoldable pub linkAim : Link → Atom → Aim
 linkAim k (link l p q) = ite (link? k l) (hits (record { term = q; with = λ σ u. plus (link k (fill σ p) u) })) misses
 linkAim k (obj t) = misses
-linkAim k (method a o m ts r) = misses
+linkAim k (arrows o p) = misses
 
 unfoldable pub resultAim : Result → (Term → Aim) → Aim
 resultAim (value t) f = f t
@@ -53,7 +53,7 @@ resultAim none f = misses
 unfoldable pub methodAim : Atom → (Arrow → Term → Term → Terms → Result → Aim) → Aim
 methodAim (link l t u) f = misses
 methodAim (obj t) f = misses
-methodAim (method a o m ts r) f = cond (signature a) (f a o m ts r) misses
+methodAim (arrows o (part a m ts r)) f = cond (signature a) (f a o m ts r) misses
 
 unfoldable pub objectAim : Arrow → Term → Term → Terms → Result → Aim
 objectAim a o m ts r = hits (record { term = o; with = λ σ u. plus (method a u (fill σ m) (fills σ ts) (fillResult σ r)) })
@@ -103,16 +103,16 @@ link-rewrite k σ (link l p q) m = go (link? k l)
     go (yes e) = refl
     go (no e) = refl
 link-rewrite k σ (obj t) m = refl
-link-rewrite k σ (method a o n ts r) m = refl
+link-rewrite k σ (arrows o p) m = refl
 
 -- A signature, and what is aimed at in it.
 method-rewrite : (d : Bool) (σ : Substitution) (x : Atom) (m : Literal) (f : Arrow → Term → Term → Terms → Result → Conclusion) (g : Arrow → Term → Term → Terms → Result → Aim) →
     ((a : Arrow) (o n : Term) (ts : Terms) (r : Result) → f a (fill σ o) (fill σ n) (fills σ ts) (fillResult σ r) ≡ rewrite Sub d σ (g a o n ts r) m) →
     onMethod signature (fillAtom σ x) f ≡ rewrite Sub d σ (methodAim x g) m
-unfolding fillAtom onMethod methodAim rewrite
+unfolding fillAtom fillPart onMethod methodAim rewrite
 method-rewrite d σ (link l t u) m f g e = refl
 method-rewrite d σ (obj t) m f g e = refl
-method-rewrite d σ (method a o n ts r) m f g e = go (signature a)
+method-rewrite d σ (arrows o (part a n ts r)) m f g e = go (signature a)
   where
     go : (b : Bool) → cond b (f a (fill σ o) (fill σ n) (fills σ ts) (fillResult σ r)) misshapen ≡ rewrite Sub d σ (cond b (g a o n ts r) misses) m
     go true = e a o n ts r
@@ -140,7 +140,7 @@ sub-misses (lit Positive (link l t u)) = go (link? Sub l)
     go (yes e) = refl
     go (no e) = refl
 sub-misses (lit Positive (obj t)) = refl
-sub-misses (lit Positive (method a o m ts r)) = refl
+sub-misses (lit Positive (arrows o p)) = refl
 sub-misses (lit Negative x) = refl
 
 argument-rewrite : (σ : Substitution) (k : ℕ) (ts : Terms) (m : Literal) (f : Term → Terms → Term → Conclusion) (g : Argument → Aim) →

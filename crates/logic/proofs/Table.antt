@@ -12,7 +12,7 @@ use Rattle.logic.specs.declared.Link.the-variants.{Eq, Mem, Sub}
 use Rattle.logic.specs.declared.Arrow.{Arrow}
 use Rattle.logic.specs.declared.Rule.{Rule}
 use Rattle.logic.specs.declared.Rule.the-variants.{Refl, Res, Fac, Par, Acy, Tra, Inc, Inh, Inp, Out, Sca, Eli}
-use Rattle.logic.specs.Syntax.{Term, Terms, nil, cons, Result, value, none, Atom, link, obj, method, Literal, lit, Clause}
+use Rattle.logic.specs.Syntax.{Term, Terms, nil, cons, Result, value, none, part, Atom, link, obj, arrows, method, Literal, lit, Clause}
 use Rattle.logic.specs.Equality.{link?}
 use Rattle.logic.specs.Fill.{fillClause}
 use Rattle.logic.specs.Occurrence.{Search, past, found}
@@ -79,13 +79,13 @@ module _ {g : Agreement} {d : Clause} {P : Type 0} where
       go (yes h) e = k t u (ap (λ v. link v t u) (sym h)) e
       go (no h) e = not-misshapen e
   link-found n (obj t) f e k = not-misshapen e
-  link-found n (method a o m ts r) f e k = not-misshapen e
+  link-found n (arrows o p) f e k = not-misshapen e
 
   obj-found : (x : Atom) (f : Term → Conclusion) → onObj x f ≡ concludes g d → ((t : Term) → x ≡ obj t → f t ≡ concludes g d → P) → P
   unfolding onObj
   obj-found (link l t u) f e k = not-misshapen e
   obj-found (obj t) f e k = k t refl e
-  obj-found (method a o m ts r) f e k = not-misshapen e
+  obj-found (arrows o p) f e k = not-misshapen e
 
   result-found : (r : Result) (f : Term → Conclusion) → onResult r f ≡ concludes g d → ((t : Term) → r ≡ value t → f t ≡ concludes g d → P) → P
   unfolding onResult
@@ -97,7 +97,7 @@ module _ {g : Agreement} {d : Clause} {P : Type 0} where
   unfolding onMethod
   method-found p (link l t u) f e k = not-misshapen e
   method-found p (obj t) f e k = not-misshapen e
-  method-found p (method a o m ts r) f e k = go (p a) (λ h. k a o m ts r h refl) e
+  method-found p (arrows o (part a m ts r)) f e k = go (p a) (λ h. k a o m ts r h refl) e
     where
       go : (b : Bool) → (T b → f a o m ts r ≡ concludes g d → P) → cond b (f a o m ts r) misshapen ≡ concludes g d → P
       go true k e = k tt e

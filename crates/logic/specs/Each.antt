@@ -4,7 +4,7 @@ use Prim.Native.Nat.{ℕ, zero, suc, max}
 use mathlib.Core.Bool.{Bool, true, false, _&&_, not}
 use mathlib.Core.List.{List, [], _∷_}
 use lib.Dec.{eqb}
-use Rattle.logic.specs.Syntax.{Term, var, app, Terms, nil, cons, Result, value, none, Atom, link, obj, method, lit, Clause, mayBeNone}
+use Rattle.logic.specs.Syntax.{Term, var, app, Terms, nil, cons, Result, value, none, Part, part, Atom, link, obj, arrows, lit, Clause, mayBeNone}
 use Rattle.logic.specs.Terms.{count, termsOf}
 
 -- T11: every variable N meets `p N`, and every applied symbol N with n terms meets `s N n`. T13, T16: so in an atom, in a clause.
@@ -50,10 +50,13 @@ unfoldable pub allowedResult : Bool → Result → Bool
 allowedResult b (value t) = true
 allowedResult b none = b
 
+unfoldable pub allowedPart : Part → Bool
+allowedPart (part a m ts r) = allowedResult (mayBeNone a) r
+
 unfoldable pub allowed : Atom → Bool
 allowed (link l t u) = true
 allowed (obj t) = true
-allowed (method a o m ts r) = allowedResult (mayBeNone a) r
+allowed (arrows o p) = allowedPart p
 
 unfoldable pub allowedClause : Clause → Bool
 allowedClause [] = true

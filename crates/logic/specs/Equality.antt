@@ -11,7 +11,7 @@ use Rattle.logic.specs.declared.Link.the-variants.{Eq, Mem, Sub}
 use Rattle.logic.specs.declared.Arrow.{Arrow}
 use Rattle.logic.specs.declared.Arrow.the-variants.{Sv, Si, Mv, Mi, St, Mt}
 use Rattle.logic.specs.Syntax.{Term-discrete, Terms, Terms-discrete, Result-discrete}
-use Rattle.logic.specs.Syntax.{Atom, Atom-discrete, Literal, Literal-discrete, Clause}
+use Rattle.logic.specs.Syntax.{Part, Part-discrete, Atom, Atom-discrete, Literal, Literal-discrete, Clause}
 use Rattle.logic.specs.Rules.{Call, Call-discrete}
 
 unfoldable pub signNumber : Sign → ℕ
@@ -85,8 +85,11 @@ arrow? a b = byNumber arrowNumber nthArrow (λ l. arrow-back l) a b (ℕ-discret
 unfoldable pub terms? : (ts us : Terms) → Dec (ts ≡ us)
 terms? = Terms-discrete ℕ-discrete
 
+unfoldable pub part? : (p q : Part) → Dec (p ≡ q)
+part? = Part-discrete arrow? (Term-discrete ℕ-discrete) terms? (Result-discrete (Term-discrete ℕ-discrete))
+
 unfoldable pub atom? : (x y : Atom) → Dec (x ≡ y)
-atom? = Atom-discrete link? (Term-discrete ℕ-discrete) arrow? terms? (Result-discrete (Term-discrete ℕ-discrete))
+atom? = Atom-discrete link? (Term-discrete ℕ-discrete) part?
 
 unfoldable pub call? : (x y : Call) → Dec (x ≡ y)
 call? = Call-discrete arrow? (Term-discrete ℕ-discrete) terms?

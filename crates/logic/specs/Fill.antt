@@ -1,7 +1,7 @@
 -- Filling (R2, D2, H10): a term stands in for each variable.
 use Prim.Native.Nat.{ℕ}
 use mathlib.Core.List.{map}
-use Rattle.logic.specs.Syntax.{Term, var, app, Terms, nil, cons, Result, value, none, Atom, link, obj, method, Literal, lit, Clause}
+use Rattle.logic.specs.Syntax.{Term, var, app, Terms, nil, cons, Result, value, none, Part, part, Atom, link, obj, arrows, Literal, lit, Clause}
 use Rattle.logic.specs.Terms.{entryOr}
 
 -- D2, "one substitution": it gives the term for each variable.
@@ -26,10 +26,13 @@ unfoldable pub fillResult : Substitution → Result → Result
 fillResult σ (value t) = value (fill σ t)
 fillResult σ none = none
 
+unfoldable pub fillPart : Substitution → Part → Part
+fillPart σ (part a m ts r) = part a (fill σ m) (fills σ ts) (fillResult σ r)
+
 unfoldable pub fillAtom : Substitution → Atom → Atom
 fillAtom σ (link l t u) = link l (fill σ t) (fill σ u)
 fillAtom σ (obj t) = obj (fill σ t)
-fillAtom σ (method a o m ts r) = method a (fill σ o) (fill σ m) (fills σ ts) (fillResult σ r)
+fillAtom σ (arrows o p) = arrows (fill σ o) (fillPart σ p)
 
 unfoldable pub fillLiteral : Substitution → Literal → Literal
 fillLiteral σ (lit g x) = lit g (fillAtom σ x)

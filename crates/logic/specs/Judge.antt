@@ -14,7 +14,7 @@ use Rattle.logic.specs.declared.Rule.{Rule}
 use Rattle.logic.specs.declared.Rule.the-variants.{Refl, Res, Fac, Par, Acy, Tra, Inc, Inh, Inp, Out, Sca, Eli}
 use Rattle.logic.specs.declared.Judged.{Judged}
 use Rattle.logic.specs.declared.Judged.the-variants.{Passed, NoParent, WrongNumber, Misshapen, Disagrees, WrongClaim}
-use Rattle.logic.specs.Syntax.{Term, Terms, nil, cons, Result, value, none, Atom, link, obj, method, Literal, lit, Clause, Step}
+use Rattle.logic.specs.Syntax.{Term, Terms, nil, cons, Result, value, none, part, Atom, link, obj, arrows, method, Literal, lit, Clause, Step}
 use Rattle.logic.specs.Equality.{link?, terms?, atom?, call?, clause?}
 use Rattle.logic.specs.Fill.{Substitution, fillClause}
 use Rattle.logic.specs.Occurrence.{Search, past, found, findLiteral}
@@ -44,12 +44,12 @@ onMinus (lit Negative x) f = f x
 unfoldable pub onLink : Link → Atom → (Term → Term → Conclusion) → Conclusion
 onLink k (link l t u) f = ite (link? k l) (f t u) misshapen
 onLink k (obj t) f = misshapen
-onLink k (method a o m ts r) f = misshapen
+onLink k (arrows o p) f = misshapen
 
 unfoldable pub onObj : Atom → (Term → Conclusion) → Conclusion
 onObj (link l t u) f = misshapen
 onObj (obj t) f = f t
-onObj (method a o m ts r) f = misshapen
+onObj (arrows o p) f = misshapen
 
 unfoldable pub onResult : Result → (Term → Conclusion) → Conclusion
 onResult (value t) f = f t
@@ -59,7 +59,7 @@ onResult none f = misshapen
 unfoldable pub onMethod : (Arrow → Bool) → Atom → (Arrow → Term → Term → Terms → Result → Conclusion) → Conclusion
 onMethod p (link l t u) f = misshapen
 onMethod p (obj t) f = misshapen
-onMethod p (method a o m ts r) f = cond (p a) (f a o m ts r) misshapen
+onMethod p (arrows o (part a m ts r)) f = cond (p a) (f a o m ts r) misshapen
 
 -- Argument k, and the arguments with s in its place.
 unfoldable pub onPlaced : Term → ℕ → Terms → (Term → Terms → Conclusion) → Conclusion

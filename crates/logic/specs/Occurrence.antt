@@ -46,7 +46,7 @@ findLiteral σ u (lit g x) k = mapSearch (lit g) (findAtom σ u x k)
 -- behind; and in an atom (T13).
 pub data Replaced (a b : Term) : Terms → Terms → Type 0 where
   here : {ts : Terms} → Replaced a b (cons a ts) (cons b ts)
-  part : {f : ℕ} {ts us rest : Terms} → Replaced a b ts us → Replaced a b (cons (app f ts) rest) (cons (app f us) rest)
+  inside : {f : ℕ} {ts us rest : Terms} → Replaced a b ts us → Replaced a b (cons (app f ts) rest) (cons (app f us) rest)
   later : {t : Term} {ts us : Terms} → Replaced a b ts us → Replaced a b (cons t ts) (cons t us)
 
 unfoldable pub ReplacedAtom : Term → Term → Atom → Atom → Type 0

@@ -8,7 +8,7 @@ use lib.Dec.{T}
 use Rattle.logic.specs.Syntax.{Positive, Negative, Eq, Mem, Sub, Arrow, Sv, Si, Mv, Mi, St, Mt}
 use Rattle.logic.specs.Syntax.{Rule, Refl, Res, Fac, Par, Acy, Tra, Inc, Inh, Inp, Out, Sca, Eli}
 use Rattle.logic.specs.Syntax.{Term, Terms, nil, cons, Result, value, none}
-use Rattle.logic.specs.Syntax.{Atom, link, obj, method, Literal, lit, Clause, mayBeNone}
+use Rattle.logic.specs.Syntax.{Part, part, Atom, link, obj, arrows, method, Literal, lit, Clause, mayBeNone}
 use Rattle.logic.specs.Fill.{Substitution, fillClause}
 use Rattle.logic.specs.Occurrence.{found, findLiteral}
 
@@ -37,15 +37,18 @@ uses Out = row true true true true false
 uses Sca = row true true true true false
 uses Eli = row true true false false false
 
--- R4, H8: an atom with none in place of a term result, where it may have none (T15).
+-- R4, H8: a part, an atom with none in place of a term result, where it may have none (T15).
 unfoldable pub bareResult : Bool → Result → Result
 bareResult true r = none
 bareResult false r = r
 
+unfoldable pub barePart : Part → Part
+barePart (part a m ts r) = part a m ts (bareResult (mayBeNone a) r)
+
 unfoldable pub bare : Atom → Atom
 bare (link l t u) = link l t u
 bare (obj t) = obj t
-bare (method a o m ts r) = method a o m ts (bareResult (mayBeNone a) r)
+bare (arrows o p) = arrows o (barePart p)
 
 -- R4: "X *covers* Y if they are equal, or if Y is X with none in place of a term result."
 unfoldable pub Covers : Atom → Atom → Type 0

@@ -39,13 +39,25 @@ mayBeNone Mi = true
 mayBeNone St = true
 mayBeNone Mt = true
 
--- T13: "`(eq T U)` is equality; `(mem T U)` is T : U; `(sub T U)` is T :: U; `(obj T)` is T[]; `(ARROW O M (T ...) R)` has the object O,
--- the method M, the arguments T ..., perhaps none at all, and the result R."
+-- T13: "`(ARROW O M (T ...) R)` has the object O, the method M, the arguments T ..., perhaps none at all, and the result R." Its part is
+-- what it says of O: all but O.
+pub data Part : Type 0 where
+  part : Arrow → Term → Terms → Result → Part
+  deriving Discrete as Part-discrete
+
+-- T13, T14: its arrow.
+abbrev pub arrowOf : Part → Arrow
+arrowOf (part a m ts r) = a
+
+-- T13: "`(eq T U)` is equality; `(mem T U)` is T : U; `(sub T U)` is T :: U; `(obj T)` is T[]"; an arrow atom is its object and its part.
 pub data Atom : Type 0 where
   link : Link → Term → Term → Atom
   obj : Term → Atom
-  method : Arrow → Term → Term → Terms → Result → Atom
+  arrows : Term → Part → Atom
   deriving Discrete as Atom-discrete
+
+abbrev pub method : Arrow → Term → Term → Terms → Result → Atom
+method a o m ts r = arrows o (part a m ts r)
 
 -- T16: "`(+ ATOM)` is a positive literal, `(- ATOM)` a negative one."
 pub data Literal : Type 0 where

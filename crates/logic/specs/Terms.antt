@@ -1,6 +1,6 @@
 -- Lists of terms (T11, T13, R2), and the terms of an atom from left to right (T13, R20).
 use Prim.Native.Nat.{ℕ, zero, suc}
-use Rattle.logic.specs.Syntax.{Term, app, Terms, nil, cons, Result, value, none, Atom, link, obj, method}
+use Rattle.logic.specs.Syntax.{Term, app, Terms, nil, cons, Result, value, none, Part, part, Atom, link, obj, arrows}
 
 -- How many terms: of a symbol (T7), of a method (T18), of a list (R3).
 unfoldable pub count : Terms → ℕ
@@ -25,10 +25,13 @@ resultTerms none = nil
 
 -- T13: "`(ARROW O M (T ...) R)` has the object O, the method M, the arguments T ..., .. and the result R": the terms of an atom,
 -- "from left to right" (R20).
+unfoldable pub partTerms : Part → Terms
+partTerms (part a m ts r) = cons m (join ts (resultTerms r))
+
 unfoldable pub termsOf : Atom → Terms
 termsOf (link l t u) = cons t (cons u nil)
 termsOf (obj t) = cons t nil
-termsOf (method a o m ts r) = cons o (cons m (join ts (resultTerms r)))
+termsOf (arrows o p) = cons o (partTerms p)
 
 -- The first n terms, and the terms behind those: the arguments, and the result after them (T13).
 unfoldable pub front : ℕ → Terms → Terms
@@ -50,9 +53,11 @@ unfoldable pub withResult : Result → Terms → Result
 withResult (value t) us = value (nth us 0)
 withResult none us = none
 
--- T13, R11: an atom with the terms us in place of its own, left to right; us has as many.
+-- T13, R11: a part, an atom with the terms us in place of its own, left to right; us has as many.
+unfoldable pub withPartTerms : Part → Terms → Part
+withPartTerms (part a m ts r) us = part a (nth us 0) (front (count ts) (rest 1 us)) (withResult r (rest (count ts) (rest 1 us)))
+
 unfoldable pub withTerms : Atom → Terms → Atom
 withTerms (link l t u) us = link l (nth us 0) (nth us 1)
 withTerms (obj t) us = obj (nth us 0)
-withTerms (method a o m ts r) us =
-    method a (nth us 0) (nth us 1) (front (count ts) (rest 2 us)) (withResult r (rest (count ts) (rest 2 us)))
+withTerms (arrows o p) us = arrows (nth us 0) (withPartTerms p (rest 1 us))

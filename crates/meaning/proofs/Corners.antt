@@ -7,21 +7,21 @@ use lib.ListN.{length, take, drop}
 use Rattle.meaning.specs.declared.Verdict.{Verdict}
 use Rattle.meaning.specs.declared.Verdict.the-variants.{Refuted, Open, Refused}
 use Rattle.logic.specs.Each.{eachTerm, eachTerms, eachAtom, eachClause, declares, termWidth, termsWidth, width}
-use Rattle.logic.specs.Equality.{signNumber, nthSign, linkNumber, nthLink, arrowNumber, nthArrow, sign?, link?, arrow?, terms?, atom?, call?, literal?, consSame, clause?, byNumber}
-use Rattle.logic.specs.Fill.{entries, fill, fills, fillResult, fillAtom, fillLiteral, fillClause}
+use Rattle.logic.specs.Equality.{signNumber, nthSign, linkNumber, nthLink, arrowNumber, nthArrow, sign?, link?, arrow?, terms?, part?, atom?, call?, literal?, consSame, clause?, byNumber}
+use Rattle.logic.specs.Fill.{entries, fill, fills, fillResult, fillPart, fillAtom, fillLiteral, fillClause}
 use Rattle.logic.specs.StepChecks.{parentClause, parentA, parentB, below, parentsBelow, zeroIfUnused, unusedZero, firstLength, listsFit, numbersRight, judgedNumber}
 use Rattle.logic.specs.Judge.{onAt, onPlus, onMinus, onLink, onObj, onResult, onMethod, onPlaced, onFound, onSub, conclude-res, conclude-acy, conclude-link, onSignature, conclude-inh, conclude-inp, conclude-out, onScalar, conclude-sca, before, tableRow, conclude-eli, conclude-two, conclude-fac, conclude-par, conclude, conclusion, covers?, holds?, judgeConclusion, judge}
 use Rattle.logic.specs.Occurrence.{mapSearch, inTurn, findTerm, findTerms, findAtom, findLiteral}
 use Rattle.logic.specs.Descent.{among, usedParents, numbersBelow}
 use Rattle.logic.specs.Reach.{reached, restsOn}
-use Rattle.logic.specs.Rules.{uses, bareResult, bare, signature, scalar, filled}
+use Rattle.logic.specs.Rules.{uses, bareResult, barePart, bare, signature, scalar, filled}
 use Rattle.logic.specs.Syntax.{mayBeNone}
 use native.Mathlib.Decide.{ℕ-discrete}
-use Rattle.logic.specs.Terms.{join, count, entryOr, resultTerms, termsOf, front, rest, nth, withResult, withTerms}
+use Rattle.logic.specs.Terms.{join, count, entryOr, resultTerms, partTerms, termsOf, front, rest, nth, withResult, withPartTerms, withTerms}
 use Rattle.text.specs.Figures.{office}
-use Rattle.text.specs.Read.{strip, oneOf, digit, goesOn, readDigits, readNumber, readNext, readItems, readMany, readVariable, readApplied, readTerm, readArguments, readResult, readLink, readObject, readMethod, readKind, readAtom, readSign, readLiteral, readClause, readLet, readRule, readSym, readInput, readStep, readForm, whole, readLine, readRaw}
+use Rattle.text.specs.Read.{strip, oneOf, digit, goesOn, readDigits, readNumber, readNext, readItems, readMany, readVariable, readApplied, readTerm, readArguments, readResult, readLink, readObject, readPart, readMethod, readKind, readAtom, readSign, readLiteral, readClause, readLet, readRule, readSym, readInput, readStep, readForm, whole, readLine, readRaw}
 use Rattle.text.specs.Split.{push, split}
-use Rattle.state.specs.State.{fresh, clauses, advance, isEmpty, ordered, hasConstant, constantReady, argumentsFit, argumentsFitAll, clauseFits, listFits, withinLimits, symbolsDeclared, after, stateAfter}
+use Rattle.state.specs.State.{fresh, clauses, advance, isEmpty, ordered, hasConstant, constantReady, partFits, argumentsFit, argumentsFitAll, clauseFits, listFits, withinLimits, symbolsDeclared, after, stateAfter}
 use Rattle.state.specs.Failure.{lineFailure}
 use Rattle.meaning.specs.Answer.{stepFailure, failure, isNil, firstEmpty, acceptedAs, finish, readOn, verdict, restsIn, rests}
 use Rattle.meaning.specs.Checks.{readings, tooLarge, stateOf, tableOf, inputsOf}
@@ -59,7 +59,7 @@ pub record Computed : Type 0 where
   pub unended-base : verdict office (take (length (textOf firstCorner) - 1) (textOf firstCorner)) ≡ Refused 2 8
 
 pub computed : Computed
-unfolding eachTerm eachTerms eachAtom eachClause declares termWidth termsWidth width signNumber nthSign linkNumber nthLink arrowNumber nthArrow sign? link? arrow? terms? atom? call? literal? consSame clause? byNumber ℕ-discrete entries fill fills fillResult fillAtom fillLiteral fillClause parentClause parentA parentB below parentsBelow zeroIfUnused unusedZero firstLength listsFit numbersRight onAt onPlus onMinus onLink onObj onResult onMethod onPlaced onFound onSub conclude-res conclude-acy conclude-link onSignature conclude-inh conclude-inp conclude-out onScalar conclude-sca before tableRow conclude-eli conclude-two conclude-fac conclude-par conclude conclusion covers? holds? judgeConclusion judge judgedNumber mapSearch inTurn findTerm findTerms findAtom findLiteral uses bareResult bare signature scalar filled mayBeNone join count entryOr resultTerms termsOf front rest nth withResult withTerms strip oneOf digit goesOn readDigits readNumber readNext readItems readMany readVariable readApplied readTerm readArguments readResult readLink readObject readMethod readKind readAtom readSign readLiteral readClause readLet readRule readSym readInput readStep readForm whole readLine push split readRaw fresh clauses advance isEmpty ordered hasConstant constantReady argumentsFit argumentsFitAll clauseFits listFits withinLimits symbolsDeclared lineFailure after stepFailure failure isNil firstEmpty acceptedAs finish readOn verdict usedParents numbersBelow among reached restsOn restsIn rests readings tooLarge textOf chain firstCorner corners stateAfter stateOf tableOf inputsOf refutedText openText refusedText bareText bareOutText
+unfolding eachTerm eachTerms eachAtom eachClause declares termWidth termsWidth width signNumber nthSign linkNumber nthLink arrowNumber nthArrow sign? link? arrow? terms? part? atom? call? literal? consSame clause? byNumber ℕ-discrete entries fill fills fillResult fillPart fillAtom fillLiteral fillClause parentClause parentA parentB below parentsBelow zeroIfUnused unusedZero firstLength listsFit numbersRight onAt onPlus onMinus onLink onObj onResult onMethod onPlaced onFound onSub conclude-res conclude-acy conclude-link onSignature conclude-inh conclude-inp conclude-out onScalar conclude-sca before tableRow conclude-eli conclude-two conclude-fac conclude-par conclude conclusion covers? holds? judgeConclusion judge judgedNumber mapSearch inTurn findTerm findTerms findAtom findLiteral uses bareResult barePart bare signature scalar filled mayBeNone join count entryOr resultTerms partTerms termsOf front rest nth withResult withPartTerms withTerms strip oneOf digit goesOn readDigits readNumber readNext readItems readMany readVariable readApplied readTerm readArguments readResult readLink readObject readPart readMethod readKind readAtom readSign readLiteral readClause readLet readRule readSym readInput readStep readForm whole readLine push split readRaw fresh clauses advance isEmpty ordered hasConstant constantReady partFits argumentsFit argumentsFitAll clauseFits listFits withinLimits symbolsDeclared lineFailure after stepFailure failure isNil firstEmpty acceptedAs finish readOn verdict usedParents numbersBelow among reached restsOn restsIn rests readings tooLarge textOf chain firstCorner corners stateAfter stateOf tableOf inputsOf refutedText openText refusedText bareText bareOutText
 computed = record {
   answers = refl;
   refuted-text = refl;

@@ -10,21 +10,21 @@ use lib.ListN.{length, drop}
 use Rattle.logic.specs.declared.Link.{Link}
 use Rattle.logic.specs.declared.Arrow.{Arrow}
 use Rattle.logic.specs.declared.Arrow.the-variants.{Mt}
-use Rattle.logic.specs.Syntax.{Term, nil, cons, value, none, mayBeNone, link, obj, method, lit}
+use Rattle.logic.specs.Syntax.{Term, nil, cons, value, none, mayBeNone, part, link, obj, arrows, lit}
 use Rattle.logic.specs.Terms.{count, resultTerms}
 use Rattle.reader.specs.declared.measures.Measure.{Measure}
 use Rattle.reader.specs.declared.summaries.Summary.{Summary}
 use Rattle.scan.specs.declared.tables.LinkAt.{LinkAt}
 use Rattle.scan.specs.declared.tables.ArrowAt.{ArrowAt}
 use Rattle.scan.specs.declared.tables.SignAt.{SignAt}
-use Rattle.text.specs.Read.{signs, links, arrows, Parsed, bad, got, Reader, andThen, return, strip, skip, Branch, _⇒_, orElse, oneOf, each, readTerms, readTerm, readArguments, readResult, readLink, readObject, readMethod, readKind, readAtom, readSign, readLiteral}
+use Rattle.text.specs.Read.{signs, links, arrowTable, Parsed, bad, got, Reader, andThen, return, strip, skip, Branch, _⇒_, orElse, oneOf, each, readTerms, readTerm, readArguments, readResult, readLink, readObject, readPart, readMethod, readKind, readAtom, readSign, readLiteral}
 use Rattle.text.specs.Words.{bytes, signWord, linkWord, arrowWord}
 use Rattle.text.specs.Places.{endOf, readOr}
 use Rattle.scan.specs.Tables.{readLinkWord, readArrowWord, linkAt, arrowAt, signAt}
-use Rattle.reader.specs.Summary.{ofTerm, ofTerms, ofAtom, ofLiteral, arityBounds, joined, bounds, measured, empty, summary, settled, termMeasure, termsMeasure, resultMeasure, atomMeasure, literalMeasure}
+use Rattle.reader.specs.Summary.{ofTerm, ofTerms, ofPart, ofAtom, ofLiteral, arityBounds, joined, bounds, measured, empty, summary, settled, termMeasure, termsMeasure, resultMeasure, partMeasure, atomMeasure, literalMeasure}
 use Rattle.text.proofs.Places.{past}
-use Rattle.text.proofs.Plain.{sign-plain, link-plain, arrow-plain, arguments-plain, result-plain, atom-plain, literal-plain}
-use Rattle.text.proofs.Sound.{table-sound, arguments-sound, result-sound, atom-sound, literal-sound}
+use Rattle.text.proofs.Plain.{sign-plain, link-plain, arrow-plain, arguments-plain, result-plain, part-plain, atom-plain, literal-plain}
+use Rattle.text.proofs.Sound.{table-sound, arguments-sound, result-sound, part-sound, atom-sound, literal-sound}
 use Rattle.text.proofs.Chain.{Stops, stops, word-stops, Track, lost, found, look, onward, lose, losing, handed, hit, miss, first-word, later-word, no-word, last-word}
 use Rattle.reader.proofs.Bounds.{bounds-lawful}
 use Rattle.reader.proofs.Measuring.{settled-track, ending, measuring}
@@ -40,6 +40,13 @@ result-needs d a = rw (term-stops d .needs)
 
 pub result-stops : (d : ℕ) (a : Arrow) → Stops (readResult d a)
 result-stops d a = stops (result-sound d a) result-plain (result-needs d a)
+
+part-needs : (d : ℕ) (a : Arrow) → readPart d a [] ≡ bad
+unfolding readPart
+part-needs d a = rw (term-stops d .needs)
+
+pub part-stops : (d : ℕ) (a : Arrow) → Stops (readPart d a)
+part-stops d a = stops (part-sound d a) part-plain (part-needs d a)
 
 pub atom-stops : (d : ℕ) → Stops (readAtom d)
 unfolding readAtom strip
@@ -59,7 +66,7 @@ link-stops = stops (table-sound linkWord links) link-plain refl
 
 pub arrow-stops : Stops readArrowWord
 unfolding readArrowWord oneOf strip
-arrow-stops = stops (table-sound arrowWord arrows) arrow-plain refl
+arrow-stops = stops (table-sound arrowWord arrowTable) arrow-plain refl
 
 module _ (table s : List ℕ) (at : ℕ) where
   pub arguments-none : (d : ℕ) {e : ℕ} {m : Measure} → e ≡ endOf s (strip (bytes "()") (drop at s)) → e ≤ length s → m ≡ empty → settled s e m ≡ summary (termsMeasure table) s (readArguments d (drop at s))
@@ -92,7 +99,7 @@ module _ (table s : List ℕ) (at : ℕ) where
   unfolding readResult
   result-bad d a m h l b = settled-track (resultMeasure table) s (lost (first-word "none" _ _ (drop at s) (hit s at (word-stops 110 (bytes "one")) h l .1) ∙ rw b) refl)
 
-  -- `T U)`, `T)` and `O M (T ...) R)` after the word
+  -- `T U)` and `T)` after the word
   pub link-sum : (d : ℕ) (l : Link) {a b e : ℕ} {t u : Summary} {m : Measure} → a ≡ endOf s (strip (bytes " ") (drop at s)) → t ≡ summary (termMeasure table) s (readTerm d (drop a s)) → b ≡ endOf s (strip (bytes " ") (drop (t .end) s)) → u ≡ summary (termMeasure table) s (readTerm d (drop b s)) → e ≡ endOf s (strip (bytes ")") (drop (u .end) s)) → m ≡ measured 1 (joined (t .measure .bounds) (u .measure .bounds)) → settled s e m ≡ summary (atomMeasure table) s (readLink d l (drop at s))
   unfolding readLink ofAtom
   link-sum d l {a} {b} {e} {t} {u} h i j k f q =
@@ -115,26 +122,32 @@ module _ (table s : List ℕ) (at : ℕ) where
       λ t₁ g₁ _ _ w. onward s (t .end) _ (word-stops 41 []) f w (λ l. l)
       λ _ _ _ n w. found (obj t₁) w n (measuring (termMeasure table) s i g₁))
 
-  pub method-sum : (d : ℕ) (x : Arrow) {a b c f e : ℕ} {o m ts r : Summary} {v : Measure} → a ≡ endOf s (strip (bytes " ") (drop at s)) → o ≡ summary (termMeasure table) s (readTerm d (drop a s)) → b ≡ endOf s (strip (bytes " ") (drop (o .end) s)) → m ≡ summary (termMeasure table) s (readTerm d (drop b s)) → c ≡ endOf s (strip (bytes " ") (drop (m .end) s)) → ts ≡ summary (termsMeasure table) s (readArguments d (drop c s)) → f ≡ endOf s (strip (bytes " ") (drop (ts .end) s)) → r ≡ summary (resultMeasure table) s (readResult d x (drop f s)) → e ≡ endOf s (strip (bytes ")") (drop (r .end) s)) → v ≡ measured 1 (joined (o .measure .bounds) (joined (arityBounds (ts .measure .count)) (joined (m .measure .bounds) (joined (ts .measure .bounds) (r .measure .bounds))))) → settled s e v ≡ summary (atomMeasure table) s (readMethod d x (drop at s))
+  -- `M (T ...) R)`, and `O M (T ...) R)` after the word
+  pub part-sum : (d : ℕ) (x : Arrow) {a b e : ℕ} {m ts r : Summary} {v : Measure} → m ≡ summary (termMeasure table) s (readTerm d (drop at s)) → a ≡ endOf s (strip (bytes " ") (drop (m .end) s)) → ts ≡ summary (termsMeasure table) s (readArguments d (drop a s)) → b ≡ endOf s (strip (bytes " ") (drop (ts .end) s)) → r ≡ summary (resultMeasure table) s (readResult d x (drop b s)) → e ≡ endOf s (strip (bytes ")") (drop (r .end) s)) → v ≡ measured 1 (joined (arityBounds (ts .measure .count)) (joined (m .measure .bounds) (joined (ts .measure .bounds) (r .measure .bounds)))) → settled s e v ≡ summary (partMeasure table) s (readPart d x (drop at s))
+  unfolding readPart ofPart
+  part-sum d x {a} {b} {e} {m} {ts} {r} i₁ h₁ i₂ h₂ i₃ h₃ q =
+      let l₅ = lose s (word-stops 41 []) h₃ in
+      let l₄ = losing s (result-stops d x) (ending i₃) l₅ in
+      let l₃ = losing s (word-stops 32 []) h₂ l₄ in
+      let l₂ = losing s (arguments-stops d) (ending i₂) l₃ in
+      settled-track (partMeasure table) s (onward s at _ (term-stops d) (ending i₁) refl (losing s (word-stops 32 []) h₁ l₂)
+      λ m₁ g₁ _ _ w. onward s (m .end) _ (word-stops 32 []) h₁ w l₂
+      λ _ _ _ _ w. onward s a _ (arguments-stops d) (ending i₂) w l₃
+      λ ts₁ g₂ _ _ w. onward s (ts .end) _ (word-stops 32 []) h₂ w l₄
+      λ _ _ _ _ w. onward s b _ (result-stops d x) (ending i₃) w l₅
+      λ r₁ g₃ _ _ w. onward s (r .end) _ (word-stops 41 []) h₃ w (λ l. l)
+      λ _ _ _ n w. found (part x m₁ ts₁ r₁) w n (rw (q, measuring (termMeasure table) s i₁ g₁, measuring (termsMeasure table) s i₂ g₂, measuring (resultMeasure table) s i₃ g₃)))
+
+  pub method-sum : (d : ℕ) (x : Arrow) {a b : ℕ} {o p : Summary} {v : Measure} → a ≡ endOf s (strip (bytes " ") (drop at s)) → o ≡ summary (termMeasure table) s (readTerm d (drop a s)) → b ≡ endOf s (strip (bytes " ") (drop (o .end) s)) → p ≡ summary (partMeasure table) s (readPart d x (drop b s)) → v ≡ measured 1 (joined (o .measure .bounds) (p .measure .bounds)) → settled s (p .end) v ≡ summary (atomMeasure table) s (readMethod d x (drop at s))
   unfolding readMethod ofAtom
-  method-sum d x {a} {b} {c} {f} {e} {o} {m} {ts} {r} h₁ i₁ h₂ i₂ h₃ i₃ h₄ i₄ h₅ q =
-      let l₈ = lose s (word-stops 41 []) h₅ in
-      let l₇ = losing s (result-stops d x) (ending i₄) l₈ in
-      let l₆ = losing s (word-stops 32 []) h₄ l₇ in
-      let l₅ = losing s (arguments-stops d) (ending i₃) l₆ in
-      let l₄ = losing s (word-stops 32 []) h₃ l₅ in
-      let l₃ = losing s (term-stops d) (ending i₂) l₄ in
-      let l₂ = losing s (word-stops 32 []) h₂ l₃ in
-      settled-track (atomMeasure table) s (onward s at _ (word-stops 32 []) h₁ refl (losing s (term-stops d) (ending i₁) l₂)
-      λ _ _ _ _ w. onward s a _ (term-stops d) (ending i₁) w l₂
-      λ o₁ g₁ _ _ w. onward s (o .end) _ (word-stops 32 []) h₂ w l₃
-      λ _ _ _ _ w. onward s b _ (term-stops d) (ending i₂) w l₄
-      λ m₁ g₂ _ _ w. onward s (m .end) _ (word-stops 32 []) h₃ w l₅
-      λ _ _ _ _ w. onward s c _ (arguments-stops d) (ending i₃) w l₆
-      λ ts₁ g₃ _ _ w. onward s (ts .end) _ (word-stops 32 []) h₄ w l₇
-      λ _ _ _ _ w. onward s f _ (result-stops d x) (ending i₄) w l₈
-      λ r₁ g₄ _ _ w. onward s (r .end) _ (word-stops 41 []) h₅ w (λ l. l)
-      λ _ _ _ n w. found (method x o₁ m₁ ts₁ r₁) w n (rw (q, measuring (termMeasure table) s i₁ g₁, measuring (termMeasure table) s i₂ g₂, measuring (termsMeasure table) s i₃ g₃, measuring (resultMeasure table) s i₄ g₄)))
+  method-sum d x {a} {b} {o} {p} h i j k q =
+      let z = lose s (part-stops d x) (ending k) in
+      let y = losing s (word-stops 32 []) j z in
+      settled-track (atomMeasure table) s (onward s at _ (word-stops 32 []) h refl (losing s (term-stops d) (ending i) y)
+      λ _ _ _ _ w. onward s a _ (term-stops d) (ending i) w y
+      λ o₁ g₁ _ _ w. onward s (o .end) _ (word-stops 32 []) j w z
+      λ _ _ _ _ w. onward s b _ (part-stops d x) (ending k) w (λ l. l)
+      λ p₁ g₂ _ n w. found (arrows o₁ p₁) w n (rw (q, measuring (termMeasure table) s i g₁, measuring (partMeasure table) s k g₂)))
 
 -- The words of a table in front of other branches, and as the last ones.
 abbrev pick : {A B : Type 0} → Parsed A → (A → Reader B) → Parsed B → Parsed B
@@ -181,7 +194,7 @@ module _ (table s : List ℕ) (at d : ℕ) where
       let (x, g, _) = hit s at link-stops (ap (λ (l : LinkAt). l .end) h) k in
       (x, table-pick linkWord (readLink d) links _ (drop at s) ∙ pick-got (readLink d) _ g)
 
-  no-link : {l : LinkAt} → l ≡ linkAt s (readLinkWord (drop at s)) → length s < l .end → readKind d (drop at s) ≡ oneOf (("obj" ⇒ readObject d) ∷ each arrowWord (readMethod d) arrows) (drop at s)
+  no-link : {l : LinkAt} → l ≡ linkAt s (readLinkWord (drop at s)) → length s < l .end → readKind d (drop at s) ≡ oneOf (("obj" ⇒ readObject d) ∷ each arrowWord (readMethod d) arrowTable) (drop at s)
   unfolding readKind readLinkWord
   no-link {l} h k = table-pick linkWord (readLink d) links _ (drop at s) ∙ pick-bad (readLink d) _ (miss s at link-stops (ap (λ (l : LinkAt). l .end) h) k)
 
@@ -190,7 +203,7 @@ module _ (table s : List ℕ) (at d : ℕ) where
 
   pub shape-method : {l : LinkAt} {o : ℕ} {a : ArrowAt} → l ≡ linkAt s (readLinkWord (drop at s)) → length s < l .end → o ≡ endOf s (strip (bytes "obj") (drop at s)) → length s < o → a ≡ arrowAt s (readArrowWord (drop at s)) → readKind d (drop at s) ≡ readMethod d (a .arrow) (drop (a .end) s)
   unfolding readArrowWord
-  shape-method {l} {o} {a} h k i j q = no-link h k ∙ later-word "obj" _ _ (drop at s) (miss s at (word-stops 111 (bytes "bj")) i j) ∙ table-last arrowWord (readMethod d) arrows (drop at s) ∙ go (look s at arrow-stops (ap (λ (a : ArrowAt). a .end) q))
+  shape-method {l} {o} {a} h k i j q = no-link h k ∙ later-word "obj" _ _ (drop at s) (miss s at (word-stops 111 (bytes "bj")) i j) ∙ table-last arrowWord (readMethod d) arrowTable (drop at s) ∙ go (look s at arrow-stops (ap (λ (a : ArrowAt). a .end) q))
     where
       go : Track s (λ _. at ≤ a .end) (readArrowWord (drop at s)) (a .end) → andThen (readArrowWord (drop at s)) (readMethod d) ≡ readMethod d (a .arrow) (drop (a .end) s)
       go (lost b m) = rw (b, past s (a .end) (omega arith)) (sym (method-needs d (a .arrow)))

@@ -6,11 +6,11 @@ use mathlib.Core.List.{List, [], _∷_}
 use native.Mathlib.Omega.{arith}
 use borrow.Author.Tests.{le-leb}
 use lib.Dec.{leb, ltb, leb→le, le→leb}
-use Rattle.logic.specs.Syntax.{Term, var, app, Terms, nil, cons, Atom, link, obj, method, lit, Clause}
-use Rattle.logic.specs.Terms.{count, join, resultTerms, termsOf}
+use Rattle.logic.specs.Syntax.{Term, var, app, Terms, nil, cons, Part, part, Atom, link, obj, arrows, lit, Clause}
+use Rattle.logic.specs.Terms.{count, join, resultTerms, partTerms, termsOf}
 use Rattle.logic.specs.Each.{any, declares, eachTerm, eachTerms, eachAtom, eachClause, termWidth, termsWidth, width}
 use Rattle.logic.specs.declared.Sign.{Sign}
-use Rattle.reader.specs.Summary.{Taken, ofTerm, ofTerms, ofAtom, ofLiteral, ofClause, boundsOf, noBounds, joined, bounds}
+use Rattle.reader.specs.Summary.{Taken, ofTerm, ofTerms, ofPart, ofAtom, ofLiteral, ofClause, boundsOf, noBounds, joined, bounds}
 use Rattle.text.proofs.Tests.{T-and, same-test}
 
 pub record Lawful {M : Type 0} (nothing : M) (join : M → M → M) : Type 0 where
@@ -75,13 +75,17 @@ module _ {M N : Type 0} {K : Taken M} {see : M → N} {term : Term → N} {terms
     tell-terms nil = S .on-nothing
     tell-terms (cons t ts) = pair (tell-term t) (tell-terms ts) ∙ S .on-term t ts
 
+  tell-part : (p : Part) → see (ofPart K p) ≡ terms (partTerms p)
+  unfolding ofPart partTerms
+  tell-part (part a m ts r) =
+      let rest = pair (tell-terms ts) (tell-terms (resultTerms r)) ∙ append ts (resultTerms r) in
+      pair (S .on-arity (count ts)) (pair (tell-term m) rest ∙ S .on-term m (join ts (resultTerms r))) ∙ S .laws .left _
+
   tell-atom : (x : Atom) → see (ofAtom K x) ≡ terms (termsOf x)
   unfolding ofAtom termsOf
   tell-atom (link l t u) = pair (tell-term t) (tell-term u ∙ alone u) ∙ S .on-term t (cons u nil)
   tell-atom (obj t) = tell-term t ∙ alone t
-  tell-atom (method a o m ts r) =
-      let part = pair (tell-term m) (pair (tell-terms ts) (tell-terms (resultTerms r)) ∙ append ts (resultTerms r)) ∙ S .on-term m (join ts (resultTerms r)) in
-      pair (tell-term o) (pair (S .on-arity (count ts)) part ∙ S .laws .left _) ∙ S .on-term o (cons m (join ts (resultTerms r)))
+  tell-atom (arrows o p) = pair (tell-term o) (tell-part p) ∙ S .on-term o (partTerms p)
 
   pub tell-clause : (c : Clause) → see (ofClause K c) ≡ clause c
   unfolding ofClause ofLiteral

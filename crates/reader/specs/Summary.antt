@@ -5,7 +5,7 @@ use mathlib.Core.Bool.{Bool, true, cond, _&&_}
 use lib.Dec.{leb}
 use mathlib.Core.List.{List, [], _∷_}
 use lib.ListN.{length}
-use Rattle.logic.specs.Syntax.{Term, var, app, Terms, nil, cons, Result, Atom, link, obj, method, Literal, lit, Clause}
+use Rattle.logic.specs.Syntax.{Term, var, app, Terms, nil, cons, Result, Part, part, Atom, link, obj, arrows, Literal, lit, Clause}
 use Rattle.logic.specs.Terms.{count, resultTerms}
 use Rattle.logic.specs.Each.{declares}
 use Rattle.reader.specs.declared.measures.Bounds.{Bounds}
@@ -33,11 +33,13 @@ unfoldable mutual
   ofTerms T nil = T .nothing
   ofTerms T (cons t ts) = T .join (ofTerm T t) (ofTerms T ts)
 
+unfoldable pub ofPart : {M : Type 0} → Taken M → Part → M
+ofPart T (part a m ts r) = T .join (T .arity (count ts)) (T .join (ofTerm T m) (T .join (ofTerms T ts) (ofTerms T (resultTerms r))))
+
 unfoldable pub ofAtom : {M : Type 0} → Taken M → Atom → M
 ofAtom T (link l t u) = T .join (ofTerm T t) (ofTerm T u)
 ofAtom T (obj t) = ofTerm T t
-ofAtom T (method a o m ts r) =
-    T .join (ofTerm T o) (T .join (T .arity (count ts)) (T .join (ofTerm T m) (T .join (ofTerms T ts) (ofTerms T (resultTerms r)))))
+ofAtom T (arrows o p) = T .join (ofTerm T o) (ofPart T p)
 
 unfoldable pub ofLiteral : {M : Type 0} → Taken M → Literal → M
 ofLiteral T (lit g x) = ofAtom T x
@@ -90,6 +92,9 @@ termsMeasure table ts = measured (count ts) (ofTerms (bounds table) ts)
 
 abbrev pub resultMeasure : List ℕ → Result → Measure
 resultMeasure table r = termsMeasure table (resultTerms r)
+
+abbrev pub partMeasure : List ℕ → Part → Measure
+partMeasure table p = measured 1 (ofPart (bounds table) p)
 
 abbrev pub atomMeasure : List ℕ → Atom → Measure
 atomMeasure table x = measured 1 (ofAtom (bounds table) x)

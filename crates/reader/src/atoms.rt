@@ -16,8 +16,8 @@ ghost use mathlib.Core.Path.{_≡_};
 ghost use lib.ListN.{drop};
 ghost use Rattle.logic.specs.declared.Link.{Link};
 ghost use Rattle.logic.specs.Syntax.{mayBeNone};
-ghost use Rattle.text.specs.Read.{readArguments, readResult, readLink, readObject, readMethod, readKind, readAtom, readLiteral};
-ghost use Rattle.reader.specs.Summary.{termsMeasure, resultMeasure, atomMeasure, literalMeasure, summary};
+ghost use Rattle.text.specs.Read.{readArguments, readResult, readLink, readObject, readPart, readMethod, readKind, readAtom, readLiteral};
+ghost use Rattle.reader.specs.Summary.{termsMeasure, resultMeasure, partMeasure, atomMeasure, literalMeasure, summary};
 
 // The arguments in brackets, perhaps none.
 pub fn arguments(s: &[u8], at: usize, depth: usize, table: &[u8]) -> Summary
@@ -88,19 +88,27 @@ fn object(s: &[u8], at: usize, depth: usize, table: &[u8]) -> Summary
     settle(s, e, t.measure)
 }
 
-// O M (T ...) R) after the arrow's word.
-fn method(s: &[u8], at: usize, a: Arrow, depth: usize, table: &[u8]) -> Summary
-    ensures { λ r. ⌜ r ≡ summary (atomMeasure (now (table .entry))) (now (s .entry)) (readMethod depth a (drop at (now (s .entry)))) ⌝ }
+// M (T ...) R), a part from its method on.
+fn part(s: &[u8], at: usize, a: Arrow, depth: usize, table: &[u8]) -> Summary
+    ensures { λ r. ⌜ r ≡ summary (partMeasure (now (table .entry))) (now (s .entry)) (readPart depth a (drop at (now (s .entry)))) ⌝ }
 {
-    let o = term(s, word(s, at, b" "), depth, table);
-    let m = term(s, word(s, o.end, b" "), depth, table);
+    let m = term(s, at, depth, table);
     let ts = arguments(s, word(s, m.end, b" "), depth, table);
     let r = result(s, word(s, ts.end, b" "), a, depth, table);
     let e = word(s, r.end, b")");
     let given = ts.measure;
     let terms = join(m.measure.bounds, join(given.bounds, r.measure.bounds));
-    let part = join(arity(given.count), terms);
-    settle(s, e, counted(1, join(o.measure.bounds, part)))
+    settle(s, e, counted(1, join(arity(given.count), terms)))
+}
+
+// O M (T ...) R) after the arrow's word.
+fn method(s: &[u8], at: usize, a: Arrow, depth: usize, table: &[u8]) -> Summary
+    ensures { λ r. ⌜ r ≡ summary (atomMeasure (now (table .entry))) (now (s .entry)) (readMethod depth a (drop at (now (s .entry)))) ⌝ }
+{
+    let o = term(s, word(s, at, b" "), depth, table);
+    let p = part(s, word(s, o.end, b" "), a, depth, table);
+    let all = join(o.measure.bounds, p.measure.bounds);
+    settle(s, p.end, counted(1, all))
 }
 
 // The word of an atom decides what follows it.

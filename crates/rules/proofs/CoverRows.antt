@@ -11,7 +11,7 @@ use Rattle.logic.specs.declared.Sign.{Sign}
 use Rattle.logic.specs.declared.Sign.the-variants.{Positive, Negative}
 use Rattle.logic.specs.declared.Rule.the-variants.{Res, Fac, Eli}
 use Rattle.logic.specs.declared.Judged.the-variants.{Misshapen}
-use Rattle.logic.specs.Syntax.{Atom, link, obj, method, Literal, lit, Clause}
+use Rattle.logic.specs.Syntax.{arrowOf, Atom, link, obj, arrows, Literal, lit, Clause}
 use Rattle.logic.specs.Each.{width}
 use Rattle.logic.specs.Fill.{Substitution, fillAtom, fillLiteral}
 use Rattle.logic.specs.Rules.{Agreement, always, covering, Covers, Holds}
@@ -90,9 +90,9 @@ module _ (depth : ℕ) where
     eli-meets σ (lit Negative (obj t)) a =
         let c = negative-at depth p (obj t) a in
         concluding depth _ always [] refl (rw (within-here p _ (subst (λ x. x ≤ length p) (sym eli-place) (head-stands p (obj t) (c .rest) (c .stands) .within))) (right-shape true always [] (λ _. tt, λ _. tt))) (λ target pos b x. refl)
-    eli-meets σ (lit Negative (method b o m ts r)) a =
-        let c = negative-at depth p (method b o m ts r) a in
-        other-eli refl (head-past p 3 (method b o m ts r) (c .rest) (omega arith) (λ e. omega (arith, arrow-range b .0)) (c .stands))
+    eli-meets σ (lit Negative (arrows o q)) a =
+        let c = negative-at depth p (arrows o q) a in
+        other-eli refl (head-past p 3 (arrows o q) (c .rest) (omega arith) (λ e. omega (arith, arrow-range (arrowOf q) .0)) (c .stands))
 
   -- fac: two literals of A of one sign.
   sign-at : (p : List ℕ) {i v : ℕ} (g : Sign) (x : Atom) → LiteralAt depth p i v (lit g x) → AtomAt depth p (atomAt p i) v x

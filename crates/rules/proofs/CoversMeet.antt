@@ -10,23 +10,24 @@ use lib.ListN.{length, take}
 use Rattle.logic.specs.declared.Link.the-variants.{Eq, Mem, Sub}
 use Rattle.logic.specs.declared.Arrow.{Arrow}
 use Rattle.logic.specs.declared.Arrow.the-variants.{Sv, Si, Mv, Mi, St, Mt}
-use Rattle.logic.specs.Syntax.{Term, var, app, Terms, Result, value, none, mayBeNone, Atom, link, obj, method}
+use Rattle.logic.specs.Syntax.{Term, var, app, Terms, Result, value, none, mayBeNone, part, Atom, link, obj, arrows, method}
 use Rattle.logic.specs.Terms.{termsOf}
 use Rattle.logic.specs.Equality.{arrow?, nthArrow, arrowNumber, arrow-back}
 use Rattle.logic.specs.Each.{termsWidth}
-use Rattle.logic.specs.Fill.{Substitution, fillResult, fillAtom}
-use Rattle.logic.specs.Rules.{bareResult, bare, Covers}
+use Rattle.logic.specs.Fill.{Substitution, fillResult, fillPart, fillAtom}
+use Rattle.logic.specs.Rules.{bareResult, barePart, bare, Covers}
+use Rattle.logic.proofs.Filling.{arrow-fill}
 use Rattle.text.specs.Words.{bytes}
-use Rattle.text.specs.Write.{word, putTerm, putResult, putAtom}
+use Rattle.text.specs.Write.{word, putTerm, putResult, putPart, putAtom}
 use Rattle.text.specs.Read.{bad, got, strip}
 use Rattle.text.specs.Access.{skipItem}
-use Rattle.text.specs.Form.{formedResult, formedAtom}
+use Rattle.text.specs.Form.{formedResult, formedPart, formedAtom}
 use Rattle.text.specs.Heads.{arrowKind, kindNumber, head}
 use Rattle.text.proofs.Heads.{afterHead, strip-same}
 use Rattle.text.proofs.Nesting.{skip-term}
 use Rattle.text.proofs.Tests.{T-and, holds}
 use Rattle.clauses.specs.Shapes.{stripAt, skipAt, nextAt, resultAt}
-use Rattle.clauses.proofs.Placing.{Stands, walk-past, strip-stands, strip-past, past-strip, skip-stands, next-term, past-next, head-stands, head-past, fromMethod, result-stands}
+use Rattle.clauses.proofs.Placing.{Stands, walk-past, strip-stands, strip-past, past-strip, skip-stands, next-term, past-next, head-stands, head-past, result-stands}
 use Rattle.rules.proofs.Targets.{link-arrow}
 use Rattle.filling.proofs.Agreed.{atoms-agree}
 use Rattle.rules.proofs.Answered.{within-here, within-past}
@@ -77,15 +78,15 @@ no-term-none (app n ts) rest = refl
 unfoldable empty : Atom → Bool
 empty (link l t u) = false
 empty (obj t) = false
-empty (method a o m ts (value r)) = false
-empty (method a o m ts none) = true
+empty (arrows o (part a m ts (value r))) = false
+empty (arrows o (part a m ts none)) = true
 
 -- What is bare but not with none is as it was.
 bare-full : (x y : Atom) → empty y ≡ false → bare x ≡ y → x ≡ y
-unfolding empty bare bareResult
+unfolding empty bare barePart bareResult
 bare-full (link l t u) y h e = e
 bare-full (obj t) y h e = e
-bare-full (method a o m ts r) y h e = go (mayBeNone a) e
+bare-full (arrows o (part a m ts r)) y h e = go (mayBeNone a) e
   where
     go : (b : Bool) → method a o m ts (bareResult b r) ≡ y → method a o m ts r ≡ y
     go true e = absurd (true≢false (ap empty e ∙ h))
@@ -113,10 +114,10 @@ module _ (p : List ℕ) where
   full-past (link Mem t u) rest h s = rw (ap (take 4) (s .bytes-there)) (spaced-past (bytes "(mem") _ s)
   full-past (link Sub t u) rest h s = rw (ap (take 4) (s .bytes-there)) (spaced-past (bytes "(sub") _ s)
   full-past (obj t) rest h s = rw (ap (take 4) (s .bytes-there)) (spaced-past (bytes "(obj") _ s)
-  full-past (method a o m ts (value r)) rest h s =
+  full-past (arrows o (part a m ts (value r))) rest h s =
       rw (ap (take 4) (s .bytes-there), arrow-head a o m ts (value r) rest)
-      (strip-past p (bytes "none") (result-stands p o m ts (value r) rest (head-stands p (method a o m ts (value r)) rest s)) (no-term-none r (word ")" rest)))
-  full-past (method a o m ts none) rest h s = absurd (true≢false h)
+      (strip-past p (bytes "none") (result-stands p o a m ts (value r) rest (head-stands p (method a o m ts (value r)) rest s)) (no-term-none r (word ")" rest)))
+  full-past (arrows o (part a m ts none)) rest h s = absurd (true≢false h)
 
 T-or : (a b : Bool) → T (a || b) ↔ (T a ⊎ T b)
 T-or true b = (λ t. inl tt, λ t. tt)
@@ -127,13 +128,13 @@ fill-kind : (σ : Substitution) (x : Atom) → kindNumber (fillAtom σ x) ≡ ki
 unfolding kindNumber fillAtom
 fill-kind σ (link l t u) = refl
 fill-kind σ (obj t) = refl
-fill-kind σ (method a o m ts r) = refl
+fill-kind σ (arrows o p) = ap arrowKind (arrow-fill σ p)
 
 bare-kind : (x : Atom) → kindNumber (bare x) ≡ kindNumber x
-unfolding kindNumber bare
+unfolding kindNumber bare barePart
 bare-kind (link l t u) = refl
 bare-kind (obj t) = refl
-bare-kind (method a o m ts r) = refl
+bare-kind (arrows o (part a m ts r)) = refl
 
 pub arrow-range : (a : Arrow) → (3 < arrowKind a) × (arrowKind a < 10)
 arrow-range = elim [
@@ -146,11 +147,11 @@ arrow-range = elim [
 ]
 
 empty-fill : (σ : Substitution) (x : Atom) → empty (fillAtom σ x) ≡ empty x
-unfolding empty fillAtom fillResult
+unfolding empty fillAtom fillPart fillResult
 empty-fill σ (link l t u) = refl
 empty-fill σ (obj t) = refl
-empty-fill σ (method a o m ts (value r)) = refl
-empty-fill σ (method a o m ts none) = refl
+empty-fill σ (arrows o (part a m ts (value r))) = refl
+empty-fill σ (arrows o (part a m ts none)) = refl
 
 module _ (depth : ℕ) where
   module _ {line starts others : List ℕ} {σ τ : Substitution} {v w : ℕ} (g : Images line starts σ v) (h : Images line others τ w) (p q : List ℕ) where
@@ -165,7 +166,7 @@ module _ (depth : ℕ) where
 
     -- The atom at x has none.
     module _ (x y : ℕ) (c : Arrow) (o m : Term) (ts : Terms) (i : AtomAt depth p x v (method c o m ts none)) where
-      here : Stands p (stripAt p (head (arrowKind c)) x) (putTerm o (word " " (fromMethod p m ts none (i .rest))))
+      here : Stands p (stripAt p (head (arrowKind c)) x) (putTerm o (word " " (putPart (part c m ts none) (i .rest))))
       unfolding kindNumber afterHead
       here = head-stands p (method c o m ts none) (i .rest) (i .stands)
 
@@ -173,19 +174,19 @@ module _ (depth : ℕ) where
       unfolding bareAt headAt putResult strip
       none-bytes =
           let e : headAt p x ≡ head (arrowKind c) = ap (take 4) (i .stands .bytes-there) ∙ arrow-head c o m ts none (i .rest) in
-          rw (e, within-here p _ (strip-stands p (bytes "none") (result-stands p o m ts none (i .rest) here) refl .within))
+          rw (e, within-here p _ (strip-stands p (bytes "none") (result-stands p o c m ts none (i .rest) here) refl .within))
 
       other-bare : (b : Atom) → AtomAt depth q y w b → (arrowKind c ≡ kindNumber b → ⊥) → T (bareAt depth p x line starts q y others) ↔ (bare (fillAtom τ b) ≡ fillAtom σ (method c o m ts none))
       unfolding callsAt kindNumber
       other-bare b j n = rw (none-bytes, within-past q _ (head-past q (arrowKind c) b (j .rest) (arrow-range c .1) n (j .stands))) (λ t. absurd t, λ e. absurd (n (sym (fill-kind σ (method c o m ts none)) ∙ (ap kindNumber (sym e) ∙ (bare-kind (fillAtom τ b) ∙ fill-kind τ b)))))
 
       same-bare : (o′ m′ : Term) (ts′ : Terms) (r′ : Result) → AtomAt depth q y w (method c o′ m′ ts′ r′) → T (bareAt depth p x line starts q y others) ↔ (bare (fillAtom τ (method c o′ m′ ts′ r′)) ≡ fillAtom σ (method c o m ts none))
-      unfolding bare bareResult fillAtom fillResult kindNumber afterHead formedAtom formedResult
+      unfolding bare barePart bareResult fillAtom fillPart fillResult kindNumber afterHead formedAtom formedPart formedResult
       same-bare o′ m′ ts′ r′ j =
           let s = head-stands q (method c o′ m′ ts′ r′) (j .rest) (j .stands) in
           let d = calls-meet depth g h (call-stands depth c o m ts none (i .rest) here (i .formed) (i .narrow)) (call-stands depth c o′ m′ ts′ r′ (j .rest) s (j .formed) (j .narrow)) in
           let z : within q (stripAt q (head (arrowKind c)) y) ≡ true = within-here q _ (s .within) in
-          let (_, f) = simp T-and at (i .formed) in
+          let (_, (_, f)) = simp T-and at (i .formed) in
           let e : bareResult (mayBeNone c) (fillResult τ r′) ≡ none = ap (λ b. bareResult b (fillResult τ r′)) (holds (mayBeNone c) f) in
           rw (none-bytes, e, z) (
             λ t. let k = d .0 t in let k₁ = k .0 in let k₂ = k .1 in let k₃ = k .2 in cc,
@@ -196,7 +197,7 @@ module _ (depth : ℕ) where
       unfolding kindNumber
       none-bare (link l t u) j = other-bare (link l t u) j (λ e. link-arrow l c (sym e))
       none-bare (obj t) j = other-bare (obj t) j (λ e. omega (arith, arrow-range c .0))
-      none-bare (method c′ o′ m′ ts′ r′) j = go (arrow? c′ c)
+      none-bare (arrows o′ (part c′ m′ ts′ r′)) j = go (arrow? c′ c)
         where
           go : Dec (c′ ≡ c) → T (bareAt depth p x line starts q y others) ↔ (bare (fillAtom τ (method c′ o′ m′ ts′ r′)) ≡ fillAtom σ (method c o m ts none))
           go (yes e) = rw e (same-bare o′ m′ ts′ r′ (rw e at j))
@@ -228,5 +229,5 @@ module _ (depth : ℕ) where
       unfolding empty
       covers-meet (link l t u) i = covers-full (link l t u) refl i
       covers-meet (obj t) i = covers-full (obj t) refl i
-      covers-meet (method a o m ts (value r)) i = covers-full (method a o m ts (value r)) refl i
-      covers-meet (method a o m ts none) i = covers-none a o m ts i
+      covers-meet (arrows o (part a m ts (value r))) i = covers-full (method a o m ts (value r)) refl i
+      covers-meet (arrows o (part a m ts none)) i = covers-none a o m ts i

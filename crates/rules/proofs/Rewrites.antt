@@ -11,7 +11,7 @@ use Rattle.logic.specs.declared.Link.{Link}
 use Rattle.logic.specs.declared.Link.the-variants.{Sub}
 use Rattle.logic.specs.declared.Judged.{Judged}
 use Rattle.text.specs.Heads.{head, linkKind}
-use Rattle.rule_table.specs.declared.Target.{Target as Part}
+use Rattle.rule_table.specs.declared.Target.{Target as TargetKind}
 use Rattle.rule_table.specs.declared.Kind.the-variants.{Rewriting}
 use Rattle.logic.specs.declared.Rule.{Rule}
 use Rattle.logic.specs.declared.Judged.the-variants.{Misshapen}
@@ -140,7 +140,7 @@ module _ (depth : ℕ) where
       by-sub rule forward e t = rw e (aimed forward l m (a .rest) (a .stands) (t i k l (a .rest) (a .stands) (a .formed) (a .narrow)) (link-view depth q j w τ Sub m b))
 
       -- Any of the rules that do, by its row.
-      pub sub-meets : (rule : Rule) (target : Part) (forward : Bool) → rowOf rule ≡ record { kind = Rewriting; target = target; link = Sub; forward = forward } →
+      pub sub-meets : (rule : Rule) (target : TargetKind) (forward : Bool) → rowOf rule ≡ record { kind = Rewriting; target = target; link = Sub; forward = forward } →
           tableRow k rule (fillLiteral σ l) (fillLiteral τ m) ≡ rewrite Sub forward σ (aim k rule l) (fillLiteral τ m) → Aimed depth p v rule → Row rule
       unfolding rowAt foundBy replaced agreesBy newAt newBy rewriteAt rewriteNewAt
       sub-meets rule target forward r e t =
@@ -149,7 +149,7 @@ module _ (depth : ℕ) where
 
   -- A literal that is missing is misshapen, in the row of any rule that rewrites.
   module _ (k : ℕ) (p : List ℕ) (i : ℕ) (line starts q : List ℕ) (j : ℕ) (others : List ℕ) where
-    pub rewrites-past : (rule : Rule) (target : Part) (kind : Link) (forward : Bool) → rowOf rule ≡ record { kind = Rewriting; target = target; link = kind; forward = forward } →
+    pub rewrites-past : (rule : Rule) (target : TargetKind) (kind : Link) (forward : Bool) → rowOf rule ≡ record { kind = Rewriting; target = target; link = kind; forward = forward } →
         (i ≡ length p + 1) ⊎ (j ≡ length q + 1) → rowAt depth rule k p i line starts q j others ≡ Misshapen
     unfolding rowAt foundBy replaced agreesBy rewriteAt
     rewrites-past rule target kind forward r missing =

@@ -14,11 +14,11 @@ use Rattle.logic.specs.declared.Arrow.{Arrow}
 use Rattle.logic.specs.declared.Arrow.the-variants.{Sv, Si, Mv, Mi, St, Mt}
 use Rattle.logic.specs.declared.Rule.the-variants.{Refl, Acy, Sca}
 use Rattle.logic.specs.declared.Judged.the-variants.{Misshapen}
-use Rattle.logic.specs.Syntax.{Term, var, Terms, cons, Result, value, none, Atom, link, obj, method, Literal, lit}
+use Rattle.logic.specs.Syntax.{Term, var, Terms, cons, Result, value, none, part, arrowOf, Atom, link, obj, arrows, method, Literal, lit}
 use Rattle.logic.specs.Terms.{termsOf}
 use Rattle.logic.specs.Equality.{link?}
 use Rattle.logic.specs.Each.{termWidth, width}
-use Rattle.logic.specs.Fill.{Substitution, fill, fills, fillResult, fillAtom, fillLiteral}
+use Rattle.logic.specs.Fill.{Substitution, fill, fills, fillResult, fillPart, fillAtom, fillLiteral}
 use Rattle.logic.specs.Rules.{always, equal, call, alike, Holds, scalar, one, plus}
 use Rattle.logic.specs.Judge.{Conclusion, misshapen, withNew, onPlus, onLink, onSub, onResult, onMethod, onScalar, conclude-acy, conclude-sca, tableRow, holds?}
 use Rattle.text.specs.Words.{bytes}
@@ -79,8 +79,8 @@ module _ (depth : ℕ) where
             rw (ap linkKind e) (a-link t u (record { rest = _; stands = s; formed = ft; narrow = omega arith }) (record { rest = _; stands = next-term p t s; formed = fu; narrow = omega arith }) (λ f. refl))
         go (no e) = no-link (link-past p k (link l t u) (word ")" (a .rest)) (λ h. e (kind-link k l h)) atom) (λ f. refl)
     link-view k (lit Positive (obj t)) a = no-link (link-past p k (obj t) (word ")" (a .rest)) (link-object k) (positive-stands p (obj t) (a .rest) (a .stands))) (λ f. refl)
-    link-view k (lit Positive (method b o m ts r)) a =
-        no-link (link-past p k (method b o m ts r) (word ")" (a .rest)) (link-arrow k b) (positive-stands p (method b o m ts r) (a .rest) (a .stands))) (λ f. refl)
+    link-view k (lit Positive (arrows o q)) a =
+        no-link (link-past p k (arrows o q) (word ")" (a .rest)) (link-arrow k (arrowOf q)) (positive-stands p (arrows o q) (a .rest) (a .stands))) (λ f. refl)
 
 -- Two places that are both within, or one that is past.
 pub both-within : (p q : List ℕ) {x y : ℕ} → x ≤ length p → y ≤ length q → (within p x && within q y) ≡ true
@@ -159,27 +159,27 @@ module _ (depth : ℕ) where
           let h = a .narrow in
           let s = either-stands p 4 5 (method b o m ts (value r)) (word ")" (a .rest)) (omega arith) k (positive-stands p (method b o m ts (value r)) (a .rest) (a .stands)) in
           a-scalar b o m ts r e (call-stands depth b o m ts (value r) (word ")" (a .rest)) s (a .formed) (omega arith))
-          (rw (value-of p o m ts r (word ")" (a .rest)) s) (result-at depth b o m ts r (word ")" (a .rest)) s (a .formed) (omega arith))) (λ f. refl)
+          (rw (value-of p o b m ts r (word ")" (a .rest)) s) (result-at depth b o m ts r (word ")" (a .rest)) s (a .formed) (omega arith))) (λ f. refl)
       method-view b k e o m ts none a =
-          no-scalar (value-none p o m ts (word ")" (a .rest)) (either-stands p 4 5 (method b o m ts none) (word ")" (a .rest)) (omega arith) k (positive-stands p (method b o m ts none) (a .rest) (a .stands)))) (λ f. refl)
+          no-scalar (value-none p o b m ts (word ")" (a .rest)) (either-stands p 4 5 (method b o m ts none) (word ")" (a .rest)) (omega arith) k (positive-stands p (method b o m ts none) (a .rest) (a .stands)))) (λ f. refl)
 
       scalar-view : (l : Literal) → LiteralAt depth p i v l → ScalarView p i (objectAt p (bytes "(sv ") (bytes "(si ") i) σ v (onScalar (fillLiteral σ l))
-      unfolding objectAt firstAt onScalar onPlus onMethod onResult scalar fillLiteral fillAtom fillResult kindNumber afterHead formedLiteral
+      unfolding objectAt firstAt onScalar onPlus onMethod onResult scalar fillLiteral fillAtom fillPart fillResult kindNumber afterHead formedLiteral
       scalar-view (lit Negative x) a = no-scalar (ap scalarFrom (negative-past p x (a .rest) (a .stands)) ∙ past-scalar) (λ f. refl)
       scalar-view (lit Positive (link l t u)) a =
           no-scalar (other-scalar (link l t u) (word ")" (a .rest)) (λ w. link-arrow l Sv (sym w)) (λ w. link-arrow l Si (sym w)) (positive-stands p (link l t u) (a .rest) (a .stands))) (λ f. refl)
       scalar-view (lit Positive (obj t)) a = no-scalar (other-scalar (obj t) (word ")" (a .rest)) (λ w. omega arith) (λ w. omega arith) (positive-stands p (obj t) (a .rest) (a .stands))) (λ f. refl)
-      scalar-view (lit Positive (method Sv o m ts r)) a =
+      scalar-view (lit Positive (arrows o (part Sv m ts r))) a =
           method-view Sv (inl refl) (sv (within-here p _ (head-stands p (method Sv o m ts r) (word ")" (a .rest)) (positive-stands p (method Sv o m ts r) (a .rest) (a .stands)) .within))) o m ts r a
-      scalar-view (lit Positive (method Si o m ts r)) a =
+      scalar-view (lit Positive (arrows o (part Si m ts r))) a =
           method-view Si (inr refl) (si (within-past p _ (head-past p 4 (method Si o m ts r) (word ")" (a .rest)) (omega arith) (λ e. omega arith) (positive-stands p (method Si o m ts r) (a .rest) (a .stands))))) o m ts r a
-      scalar-view (lit Positive (method Mv o m ts r)) a =
+      scalar-view (lit Positive (arrows o (part Mv m ts r))) a =
           no-scalar (other-scalar (method Mv o m ts r) (word ")" (a .rest)) (λ w. omega arith) (λ w. omega arith) (positive-stands p (method Mv o m ts r) (a .rest) (a .stands))) (λ f. refl)
-      scalar-view (lit Positive (method Mi o m ts r)) a =
+      scalar-view (lit Positive (arrows o (part Mi m ts r))) a =
           no-scalar (other-scalar (method Mi o m ts r) (word ")" (a .rest)) (λ w. omega arith) (λ w. omega arith) (positive-stands p (method Mi o m ts r) (a .rest) (a .stands))) (λ f. refl)
-      scalar-view (lit Positive (method St o m ts r)) a =
+      scalar-view (lit Positive (arrows o (part St m ts r))) a =
           no-scalar (other-scalar (method St o m ts r) (word ")" (a .rest)) (λ w. omega arith) (λ w. omega arith) (positive-stands p (method St o m ts r) (a .rest) (a .stands))) (λ f. refl)
-      scalar-view (lit Positive (method Mt o m ts r)) a =
+      scalar-view (lit Positive (arrows o (part Mt m ts r))) a =
           no-scalar (other-scalar (method Mt o m ts r) (word ")" (a .rest)) (λ w. omega arith) (λ w. omega arith) (positive-stands p (method Mt o m ts r) (a .rest) (a .stands))) (λ f. refl)
 
 -- Two arrow atoms alike but for their results.

@@ -12,7 +12,7 @@ use Rattle.logic.specs.declared.Link.the-variants.{Eq, Sub}
 use Rattle.logic.specs.declared.Rule.{Rule}
 use Rattle.logic.specs.declared.Rule.the-variants.{Refl, Res, Fac, Par, Acy, Tra, Inc, Inh, Inp, Out, Sca, Eli}
 use Rattle.logic.specs.declared.Judged.the-variants.{Passed, Misshapen}
-use Rattle.logic.specs.Syntax.{Atom, link, obj, method, Literal, lit, Clause}
+use Rattle.logic.specs.Syntax.{Atom, link, obj, arrows, Literal, lit, Clause}
 use Rattle.logic.specs.Each.{width, eachTerm}
 use Rattle.logic.specs.Fill.{Substitution, fillAtom, fillLiteral, fillClause}
 use Rattle.logic.specs.Rules.{uses, Agreement, always, covering, plus, Parent, filled}
@@ -32,7 +32,7 @@ use Rattle.rules.proofs.RowsMeet.{refl-meets, acy-meets, sca-meets, acy
 use Rattle.rules.proofs.CoverRows.{res-meets, eli-meets, fac-judged, res-past, eli-past, fac-past}
 use Rattle.logic.proofs.Rewriting.{aim, rewrite, tra-rewrites, inc-rewrites, inh-rewrites, inp-rewrites, out-rewrites}
 use Rattle.rule_table.specs.declared.Kind.the-variants.{Rewriting}
-use Rattle.rule_table.specs.declared.Target.{Target as Part}
+use Rattle.rule_table.specs.declared.Target.{Target as TargetKind}
 use Rattle.rule_table.specs.declared.Target.the-variants.{Occurrence, Subclass, Member, Object, Argument, Result as Output}
 use Rattle.rules.proofs.Targets.{Aimed, tra-placed, inc-placed, inh-placed, inp-placed, out-placed}
 use Rattle.rules.proofs.Rewrites.{sub-meets, rewrites-past}
@@ -103,7 +103,7 @@ module _ (depth : ℕ) where
     sca-two = table-two Sca refl refl (λ x y. sca-meets depth G H k p q x y) (λ x y. sca-past depth k p x line starts q y others)
 
     -- A rule that rewrites by a link + sub.
-    sub-two : (rule : Rule) (target : Part) (forward : Bool) → rowOf rule ≡ record { kind = Rewriting; target = target; link = Sub; forward = forward } → uses rule .b ≡ true →
+    sub-two : (rule : Rule) (target : TargetKind) (forward : Bool) → rowOf rule ≡ record { kind = Rewriting; target = target; link = Sub; forward = forward } → uses rule .b ≡ true →
         conclude A B i j k rule ≡ conclude-two A B i j (tableRow k rule) → ((σ : Substitution) (l m : Literal) → tableRow k rule (fillLiteral σ l) m ≡ rewrite Sub forward σ (aim k rule l) m) → Aimed depth p (width (A .clause)) rule →
         TwoParents depth rule k A B i j p line starts q others
     sub-two rule target forward r b e rewrites placed =
@@ -202,7 +202,7 @@ module _ (depth : ℕ) where
         one-parent Eli (placeAt p i) y i always (λ pos b z. refl) (minus-dropped depth (obj t) (place-here depth P i d) i j)
         (eli-meets depth k p (placeAt p i) line starts p y starts (A .image) (lit Negative (obj t)) (place-here depth P i d) .judged) (at-filled (A .image) i (A .clause) conclude-eli d)
     eli-taken y (lit Negative (link l t u)) cs d = eli-other y (lit Negative (link l t u)) cs d (λ r. refl)
-    eli-taken y (lit Negative (method a o m ts r)) cs d = eli-other y (lit Negative (method a o m ts r)) cs d (λ r. refl)
+    eli-taken y (lit Negative (arrows o q)) cs d = eli-other y (lit Negative (arrows o q)) cs d (λ r. refl)
     eli-taken y (lit Positive x) cs d = eli-other y (lit Positive x) cs d (λ r. refl)
 
     pub eli-answers : (y : ℕ) → Answers Eli y

@@ -12,7 +12,7 @@ use Rattle.logic.specs.declared.Rule.{Rule}
 use Rattle.logic.specs.declared.Rule.the-variants.{Refl, Res, Fac, Par, Acy, Tra, Inc, Inh, Inp, Out, Sca, Eli}
 use Rattle.logic.specs.declared.Judged.{Judged}
 use Rattle.logic.specs.declared.Judged.the-variants.{Passed, Misshapen, Disagrees, WrongClaim}
-use Rattle.logic.specs.Syntax.{Term, Atom, link, obj, method, Literal, lit, Clause}
+use Rattle.logic.specs.Syntax.{Term, Atom, link, obj, Literal, lit, Clause}
 use Rattle.logic.specs.Each.{width, eachTerm}
 use Rattle.logic.specs.Fill.{Substitution, fillAtom, fillLiteral, fillClause}
 use Rattle.logic.specs.Rules.{uses, Agreement, Parent, filled}

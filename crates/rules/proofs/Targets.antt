@@ -14,17 +14,17 @@ use Rattle.logic.specs.declared.Arrow.{Arrow}
 use Rattle.logic.specs.declared.Arrow.the-variants.{Sv, Si, Mv, Mi, St, Mt}
 use Rattle.logic.specs.declared.Rule.{Rule}
 use Rattle.logic.specs.declared.Rule.the-variants.{Refl, Res, Fac, Par, Acy, Tra, Inc, Inh, Inp, Out, Sca, Eli}
-use Rattle.logic.specs.Syntax.{Term, Terms, nil, cons, Result, value, none, Atom, link, obj, method, Literal, lit}
+use Rattle.logic.specs.Syntax.{Term, Terms, nil, cons, Result, value, none, Part, part, arrowOf, Atom, link, obj, arrows, method, Literal, lit}
 use Rattle.logic.specs.Equality.{link?, linkNumber, nthLink, link-back}
-use Rattle.logic.specs.Terms.{join, resultTerms, termsOf}
+use Rattle.logic.specs.Terms.{join, resultTerms, partTerms, termsOf}
 use Rattle.logic.specs.Each.{termWidth, termsWidth, width}
-use Rattle.logic.specs.Fill.{Substitution, fill, fills, fillResult}
+use Rattle.logic.specs.Fill.{Substitution, fill, fills, fillResult, fillPart}
 use Rattle.logic.specs.Rules.{signature, plus}
 use Rattle.logic.proofs.Rewriting.{Argument, Target, Aim, misses, hits, linkAim, resultAim, methodAim, objectAim, outputAim, inputAim, argumentAim, positiveAim, aim}
 use Rattle.logic.proofs.Both.{right}
 use Rattle.text.specs.Words.{bytes}
-use Rattle.text.specs.Write.{word, putTerm, putTerms, putArguments, putResult, putAtom, putLiteral}
-use Rattle.text.specs.Form.{depthOfs, numbereds, formedTerm, formedTerms, formedResult, formedAtom, formedLiteral}
+use Rattle.text.specs.Write.{word, putTerm, putTerms, putArguments, putResult, putPart, putAtom, putLiteral}
+use Rattle.text.specs.Form.{depthOfs, numbereds, formedTerm, formedTerms, formedResult, formedPart, formedAtom, formedLiteral}
 use Rattle.text.specs.Read.{Parsed, bad, got, strip}
 use Rattle.text.specs.Places.{endOf}
 use Rattle.text.specs.Access.{opening, toArgument, toOccurrence}
@@ -39,8 +39,8 @@ use Rattle.clauses.specs.Shapes.{stripAt, nextAt, positiveAt, firstAt, valueAt,
 use Rattle.filling.specs.Filled.{Filler, fillItem, itemDepth, holeDepth}
 use Rattle.filling.proofs.LineLists.{stack-sum}
 use Rattle.filling.proofs.Placed.{Argument as Chosen, first, next, replaced, hole-second, hole-object, hole-argument, hole-result}
-use Rattle.clauses.proofs.Placing.{Stands, walk-stands, walk-past, none-past, fromMethod, inner, past-inner, past-value, result-stands, either-past, either-stands, value-of, value-none, next-term, past-next, past-strip, positive-stands, negative-past, head-stands, head-past}
-use Rattle.rule_table.specs.declared.Target.{Target as Part}
+use Rattle.clauses.proofs.Placing.{Stands, walk-stands, walk-past, none-past, inner, past-inner, past-value, result-stands, either-past, either-stands, value-of, value-none, next-term, past-next, past-strip, positive-stands, negative-past, head-stands, head-past}
+use Rattle.rule_table.specs.declared.Target.{Target as TargetKind}
 use Rattle.rule_table.specs.declared.Target.the-variants.{Nothing, Occurrence, Subclass, Member, Object as Owner, Argument as Input, Result as Output}
 use Rattle.rule_table.specs.Rows.{targetAt, targetPlace}
 
@@ -140,35 +140,33 @@ module _ (depth : ℕ) where
           filled = λ f σ v entry new h. rw (← stack-sum depth (itemDepth depth)) (hole-second f σ w depth depth entry v new Positive l t u (fits .0) (fits .1) rest h);
         }
 
-    module _ (a : Arrow) (o m : Term) (ts : Terms) (r : Result) (fits : Fits depth w (method a o m ts r)) where
-      object-hole : Hole depth w (plus (method a o m ts r)) rest (record { term = o; with = λ σ u. plus (method a u (fill σ m) (fills σ ts) (fillResult σ r)) })
-          (word " " (putTerm m (word " " (putArguments ts (word " " (putResult r (word ")" (word ")" rest))))))))
-      unfolding formedAtom termsOf termsWidth
-      object-hole =
-          let ((p, g), k) = simp T-and at (fits .0) in
-          record {
-            formed = p .0;
-            narrow = omega (arith, fits .1);
-            filled = λ f σ u entry new h. rw (← stack-sum depth (itemDepth depth)) (hole-object f σ w depth depth entry u new Positive a o m ts r (fits .0) (fits .1) rest h);
-          }
+    object-hole : (o : Term) (p : Part) → Fits depth w (arrows o p) → Hole depth w (plus (arrows o p)) rest (record { term = o; with = λ σ u. plus (arrows u (fillPart σ p)) }) (word " " (putPart p (word ")" rest)))
+    unfolding formedAtom termsOf termsWidth
+    object-hole o p fits =
+        let (f, _) = simp T-and at (fits .0) in
+        record {
+          formed = f;
+          narrow = omega (arith, fits .1);
+          filled = λ f σ u entry new h. rw (← stack-sum depth (itemDepth depth)) (hole-object f σ w depth depth entry u new Positive o p (fits .0) (fits .1) rest h);
+        }
 
-      argument-hole : {t : Term} {k : ℕ} {more : Terms} (c : Chosen t k ts more) →
-          Hole depth w (plus (method a o m ts r)) rest (record { term = t; with = λ σ u. plus (method a (fill σ o) (fill σ m) (replaced σ u c) (fillResult σ r)) })
-          (putTerms more (word ")" (word " " (putResult r (word ")" (word ")" rest))))))
-      unfolding formedAtom termsOf termsWidth
-      argument-hole c =
-          let ((p, g), k) = simp T-and at (fits .0) in
-          record {
-            formed = chosen-formed depth c g;
-            narrow = omega (arith, fits .1, chosen-narrow c (resultTerms r));
-            filled = λ f σ u entry new h. rw (← stack-sum depth (itemDepth depth)) (hole-argument f σ w depth depth entry u new Positive a o m ts r (fits .0) (fits .1) c rest h);
-          }
+    argument-hole : (a : Arrow) (o m : Term) (ts : Terms) (r : Result) → Fits depth w (method a o m ts r) → {t : Term} {k : ℕ} {more : Terms} (c : Chosen t k ts more) →
+        Hole depth w (plus (method a o m ts r)) rest (record { term = t; with = λ σ u. plus (method a (fill σ o) (fill σ m) (replaced σ u c) (fillResult σ r)) })
+        (putTerms more (word ")" (word " " (putResult r (word ")" (word ")" rest))))))
+    unfolding formedAtom formedPart termsOf partTerms termsWidth
+    argument-hole a o m ts r fits c =
+        let (_, ((_, g), _)) = simp T-and at (fits .0) in
+        record {
+          formed = chosen-formed depth c g;
+          narrow = omega (arith, fits .1, chosen-narrow c (resultTerms r));
+          filled = λ f σ u entry new h. rw (← stack-sum depth (itemDepth depth)) (hole-argument f σ w depth depth entry u new Positive a o m ts r (fits .0) (fits .1) c rest h);
+        }
 
     result-hole : (a : Arrow) (o m : Term) (ts : Terms) (r : Term) → Fits depth w (method a o m ts (value r)) →
         Hole depth w (plus (method a o m ts (value r))) rest (record { term = r; with = λ σ u. plus (method a (fill σ o) (fill σ m) (fills σ ts) (value u)) }) (word ")" (word ")" rest))
-    unfolding formedAtom formedResult termsOf resultTerms termsWidth
+    unfolding formedAtom formedPart formedResult termsOf partTerms resultTerms termsWidth
     result-hole a o m ts r fits =
-        let ((p, g), k) = simp T-and at (fits .0) in
+        let (_, (_, k)) = simp T-and at (fits .0) in
         record {
           formed = k;
           narrow = omega (arith, fits .1, join-width ts (cons r nil));
@@ -235,7 +233,7 @@ module _ (p : List ℕ) where
   unfolding objectAt
   past-object-at = rw past-positive past-signature
 
-  pub past-target : (t : Part) (k : ℕ) → targetPlace t k p (length p + 1) ≡ length p + 1
+  pub past-target : (t : TargetKind) (k : ℕ) → targetPlace t k p (length p + 1) ≡ length p + 1
   unfolding targetPlace toOccurrence strip
   past-target Nothing k = refl
   past-target Occurrence k = none-past p (toOccurrence k) refl
@@ -259,7 +257,7 @@ module _ (depth : ℕ) where
         go (yes e) = rw e (found (here l) (word ")" (word ")" rest)) (next-term p t (head-stands p (link l t u) (word ")" rest) s)) (second-hole depth w rest l t u fits))
         go (no e) = missed (link-past p k (link l t u) (word ")" rest) (λ h. e (kind-link k l h)) s)
     link-placed k (obj t) rest fits s = missed (link-past p k (obj t) (word ")" rest) (link-object k) s)
-    link-placed k (method a o m ts r) rest fits s = missed (link-past p k (method a o m ts r) (word ")" rest) (link-arrow k a) s)
+    link-placed k (arrows o q) rest fits s = missed (link-past p k (arrows o q) (word ")" rest) (link-arrow k (arrowOf q)) s)
 
     positive-placed : {at : ℕ} (l : Literal) (rest : List ℕ) (f : ℕ → ℕ) (g : Atom → Aim) → f (length p + 1) ≡ length p + 1 →
         ((x : Atom) (at : ℕ) → Fits depth w x → Stands p at (putAtom x (word ")" rest)) → Placed depth p (f at) w (plus x) rest (g x)) →
@@ -284,14 +282,14 @@ module _ (depth : ℕ) where
 
     -- What is aimed at in a signature: where the object stands, the walk from there finds it.
     method-placed : {at : ℕ} (x : Atom) (rest : List ℕ) (f : ℕ → ℕ) (g : Arrow → Term → Term → Terms → Result → Aim) → f (length p + 1) ≡ length p + 1 →
-        ((a : Arrow) (o m : Term) (ts : Terms) (r : Result) (at : ℕ) → Fits depth w (method a o m ts r) → Stands p at (putTerm o (word " " (fromMethod p m ts r (word ")" rest)))) →
+        ((a : Arrow) (o m : Term) (ts : Terms) (r : Result) (at : ℕ) → Fits depth w (method a o m ts r) → Stands p at (putTerm o (word " " (putPart (part a m ts r) (word ")" rest)))) →
         Placed depth p (f at) w (plus (method a o m ts r)) rest (g a o m ts r)) →
         Fits depth w x → Stands p at (putAtom x (word ")" rest)) → Placed depth p (f (signatureFrom p at)) w (plus x) rest (methodAim x g)
     unfolding methodAim kindNumber afterHead
     method-placed (link l t u) rest f g e h i s =
         missed (ap f (other-signature p (link l t u) (word ")" rest) (λ w. link-arrow l St (sym w)) (λ w. link-arrow l Mt (sym w)) s) ∙ e)
     method-placed (obj t) rest f g e h i s = missed (ap f (other-signature p (obj t) (word ")" rest) (λ w. omega arith) (λ w. omega arith) s) ∙ e)
-    method-placed {at} (method a o m ts r) rest f g e h i s = go (signature a) refl
+    method-placed {at} (arrows o (part a m ts r)) rest f g e h i s = go (signature a) refl
       where
         go : (b : Bool) → signature a ≡ b → Placed depth p (f (signatureFrom p at)) w (plus (method a o m ts r)) rest (cond b (g a o m ts r) misses)
         go true d = h a o m ts r _ i (either-stands p 8 9 (method a o m ts r) (word ")" rest) (omega arith) (signature-kind a (rw d tt)) s)
@@ -299,15 +297,15 @@ module _ (depth : ℕ) where
 
     -- The three places that are aimed at in a signature.
     pub inh-placed : Aimed Inh
-    unfolding targetPlace objectAt aim objectAim
+    unfolding targetPlace objectAt aim objectAim fillPart
     inh-placed at k l rest =
-        positive-placed l rest (signatureFrom p) _ (past-signature p) (λ x at i s. method-placed x rest (λ o. o) objectAim refl (λ a o m ts r at i v. found _ _ v (object-hole depth w rest a o m ts r i)) i s)
+        positive-placed l rest (signatureFrom p) _ (past-signature p) (λ x at i s. method-placed x rest (λ o. o) objectAim refl (λ a o m ts r at i v. found _ _ v (object-hole depth w rest o (part a m ts r) i)) i s)
 
     output-placed : {at : ℕ} (a : Arrow) (o m : Term) (ts : Terms) (r : Result) (rest : List ℕ) → Fits depth w (method a o m ts r) →
-        Stands p at (putTerm o (word " " (fromMethod p m ts r (word ")" rest)))) → Placed depth p (valueAt p at) w (plus (method a o m ts r)) rest (outputAim a o m ts r)
+        Stands p at (putTerm o (word " " (putPart (part a m ts r) (word ")" rest)))) → Placed depth p (valueAt p at) w (plus (method a o m ts r)) rest (outputAim a o m ts r)
     unfolding outputAim resultAim putResult
-    output-placed a o m ts (value r) rest i s = rw (value-of p o m ts r (word ")" rest) s) (found _ _ (result-stands p o m ts (value r) (word ")" rest) s) (result-hole depth w rest a o m ts r i))
-    output-placed a o m ts none rest i s = missed (value-none p o m ts (word ")" rest) s)
+    output-placed a o m ts (value r) rest i s = rw (value-of p o a m ts r (word ")" rest) s) (found _ _ (result-stands p o a m ts (value r) (word ")" rest) s) (result-hole depth w rest a o m ts r i))
+    output-placed a o m ts none rest i s = missed (value-none p o a m ts (word ")" rest) s)
 
     pub out-placed : Aimed Out
     unfolding targetPlace objectAt aim
@@ -331,7 +329,7 @@ module _ (depth : ℕ) where
         go e (present c) = found _ _ (walk-stands p at (argument-tail k) s e) (argument-hole depth w rest a o m ts r i c)
 
     pub inp-placed : Aimed Inp
-    unfolding targetPlace objectAt aim
+    unfolding targetPlace objectAt aim putPart
     inp-placed at k l rest =
         let f : ℕ → ℕ = λ o. argumentAt p (nextAt p (nextAt p o)) k in
         positive-placed l rest (λ at. f (signatureFrom p at)) _ (ap f (past-signature p) ∙ past-input p k) (λ x at i s.

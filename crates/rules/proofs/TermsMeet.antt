@@ -11,15 +11,15 @@ use Rattle.logic.specs.declared.Link.{Link}
 use Rattle.logic.specs.declared.Arrow.{Arrow}
 use Rattle.logic.specs.declared.Rule.{Rule}
 use Rattle.logic.specs.declared.Judged.the-variants.{Misshapen}
-use Rattle.logic.specs.Syntax.{Term, var, app, Terms, Result, value, link, method, Clause}
-use Rattle.logic.specs.Terms.{resultTerms, termsOf}
+use Rattle.logic.specs.Syntax.{Term, var, app, Terms, Result, value, part, link, method, Clause}
+use Rattle.logic.specs.Terms.{resultTerms, partTerms, termsOf}
 use Rattle.logic.specs.Each.{termWidth, termsWidth}
 use Rattle.logic.specs.Fill.{Substitution, fill, fills}
 use Rattle.logic.specs.Rules.{Agreement, plus}
 use Rattle.logic.specs.Judge.{Conclusion, misshapen, concludes}
 use Rattle.text.specs.Words.{linkWord}
-use Rattle.text.specs.Write.{word, putTerm, putArguments, putResult, putAtom, putLiteral, putLiterals}
-use Rattle.text.specs.Form.{numbered, numbereds, formedTerm, formedTerms, formedResult, formedAtom}
+use Rattle.text.specs.Write.{word, putTerm, putArguments, putResult, putPart, putAtom, putLiteral, putLiterals}
+use Rattle.text.specs.Form.{numbered, numbereds, formedTerm, formedTerms, formedResult, formedPart, formedAtom}
 use Rattle.text.proofs.Plain.{in-front, term-plain}
 use Rattle.text.proofs.Tests.{T-and}
 use Rattle.text.proofs.Trees.{join-width}
@@ -29,13 +29,13 @@ use Rattle.filling.specs.Claims.{filledAt, linkedAt}
 use Rattle.filling.proofs.Filling.{tree-term}
 use Rattle.filling.proofs.Grounds.{Entries, filled-by}
 use Rattle.text.proofs.Trees.{treeTerm, put-term, clean-term, within-term}
-use Rattle.clauses.proofs.Placing.{Stands, fromMethod, next-term, result-stands}
+use Rattle.clauses.proofs.Placing.{Stands, next-term, result-stands}
 use Rattle.filling.proofs.Claimed.{strip-chain, match-place}
 use Rattle.filling.proofs.Agreed.{terms-agree, arguments-agree}
 use Rattle.rules.proofs.Answered.{judgedOf}
 use Rattle.filling.proofs.NumberedFill.{fill-numbered, fills-numbered, term-deeper, terms-deeper}
 use Rattle.rules.proofs.Meets.{Images, Meets}
-use Rattle.filling.specs.Agree.{agreeAt, callsAt}
+use Rattle.filling.specs.Agree.{agreeAt, partsAt, callsAt}
 use Rattle.rule_table.specs.Rows.{rowAt}
 use Rattle.rules.specs.Claim.{newAt}
 
@@ -53,32 +53,43 @@ module _ (depth : ℕ) where
     pub formed : T (formedTerms depth ts)
     pub narrow : termsWidth ts ≤ w
 
-  -- Object, method and arguments of an arrow atom, the object at x.
+  -- Method and arguments of a part, the method at x; and object, method and arguments of an arrow atom, the object at x.
+  pub record PartAt (p : List ℕ) (x : ℕ) (w : ℕ) (m : Term) (ts : Terms) : Type 0 where
+    pub method : TermAt p x w m
+    pub arguments : ArgumentsAt p (nextAt p x) w ts
+
   pub record CallAt (p : List ℕ) (x : ℕ) (w : ℕ) (o m : Term) (ts : Terms) : Type 0 where
     pub object : TermAt p x w o
-    pub method : TermAt p (nextAt p x) w m
-    pub arguments : ArgumentsAt p (nextAt p (nextAt p x)) w ts
+    pub said : PartAt p (nextAt p x) w m ts
 
-  pub call-stands : {p : List ℕ} {x : ℕ} {w : ℕ} (a : Arrow) (o m : Term) (ts : Terms) (r : Result) (rest : List ℕ) → Stands p x (putTerm o (word " " (fromMethod p m ts r rest))) →
+  part-stands : {p : List ℕ} {x : ℕ} {w : ℕ} (a : Arrow) (m : Term) (ts : Terms) (r : Result) (rest : List ℕ) → Stands p x (putPart (part a m ts r) rest) →
+      T (formedPart depth (part a m ts r)) → termsWidth (partTerms (part a m ts r)) ≤ w → PartAt p x w m ts
+  unfolding putPart formedPart partTerms termWidth
+  part-stands {p} a m ts r rest s f h =
+      let ((fm, fs), _) = simp T-and at f in
+      let k = join-width ts (resultTerms r) in
+      record {
+        method = record { rest = _; stands = s; formed = fm; narrow = omega arith };
+        arguments = record { rest = _; stands = next-term p m s; formed = fs; narrow = omega arith };
+      }
+
+  pub call-stands : {p : List ℕ} {x : ℕ} {w : ℕ} (a : Arrow) (o m : Term) (ts : Terms) (r : Result) (rest : List ℕ) → Stands p x (putTerm o (word " " (putPart (part a m ts r) rest))) →
       T (formedAtom depth (method a o m ts r)) → termsWidth (termsOf (method a o m ts r)) ≤ w → CallAt p x w o m ts
   unfolding formedAtom termsOf termWidth
   call-stands {p} a o m ts r rest s f h =
-      let (((fo, fm), fs), _) = simp T-and at f in
-      let second = next-term p o s in
-      let k = join-width ts (resultTerms r) in
+      let (fo, fp) = simp T-and at f in
       record {
         object = record { rest = _; stands = s; formed = fo; narrow = omega arith };
-        method = record { rest = _; stands = second; formed = fm; narrow = omega arith };
-        arguments = record { rest = _; stands = next-term p m second; formed = fs; narrow = omega arith };
+        said = part-stands a m ts r rest (next-term p o s) fp (omega arith);
       }
 
-  pub result-at : {p : List ℕ} {x : ℕ} {w : ℕ} (a : Arrow) (o m : Term) (ts : Terms) (r : Term) (rest : List ℕ) → Stands p x (putTerm o (word " " (fromMethod p m ts (value r) rest))) →
+  pub result-at : {p : List ℕ} {x : ℕ} {w : ℕ} (a : Arrow) (o m : Term) (ts : Terms) (r : Term) (rest : List ℕ) → Stands p x (putTerm o (word " " (putPart (part a m ts (value r)) rest))) →
       T (formedAtom depth (method a o m ts (value r))) → termsWidth (termsOf (method a o m ts (value r))) ≤ w → TermAt p (resultAt p x) w r
-  unfolding formedAtom formedResult termsOf resultTerms termWidth putResult
+  unfolding formedAtom formedPart formedResult termsOf partTerms resultTerms termWidth putResult
   result-at {p} a o m ts r rest s f h =
-      let (_, fr) = simp T-and at f in
+      let (_, (_, fr)) = simp T-and at f in
       let k = join-width ts (resultTerms (value r)) in
-      record { rest = _; stands = result-stands p o m ts (value r) rest s; formed = fr; narrow = omega arith }
+      record { rest = _; stands = result-stands p o a m ts (value r) rest s; formed = fr; narrow = omega arith }
 
   term-numbered : (line starts : List ℕ) (σ : Substitution) (w : ℕ) → Images line starts σ w → (t : Term) → T (formedTerm depth t) → termWidth t ≤ w → T (numbered (fill σ t))
   unfolding formedTerm
@@ -101,15 +112,24 @@ module _ (depth : ℕ) where
         (terms-deeper depth (suc (suc depth)) ts (omega arith) (a .formed)) (terms-deeper depth (suc (suc depth)) us (omega arith) (b .formed)) (a .narrow) (b .narrow)
         (terms-numbered line starts σ v g ts (a .formed) (a .narrow)) (terms-numbered line others τ w h us (b .formed) (b .narrow))
 
+    parts-meet : {x y : ℕ} {m m′ : Term} {ts ts′ : Terms} → PartAt p x v m ts → PartAt q y w m′ ts′ →
+        T (partsAt depth p x line starts q y others) ↔ ((fill σ m ≡ fill τ m′) × (fills σ ts ≡ fills τ ts′))
+    unfolding partsAt
+    parts-meet a c =
+        let first = term-meets (a .method) (c .method) in
+        let second = arguments-meet (a .arguments) (c .arguments) in (
+          λ h. let (j, k) = simp T-and at h in (first .0 j, second .0 k),
+          λ h. simp T-and (first .1 (h .0), second .1 (h .1)),
+        )
+
     pub calls-meet : {x y : ℕ} {o m o′ m′ : Term} {ts ts′ : Terms} → CallAt p x v o m ts → CallAt q y w o′ m′ ts′ →
         T (callsAt depth p x line starts q y others) ↔ ((fill σ o ≡ fill τ o′) × (fill σ m ≡ fill τ m′) × (fills σ ts ≡ fills τ ts′))
     unfolding callsAt
     calls-meet a c =
         let first = term-meets (a .object) (c .object) in
-        let second = term-meets (a .method) (c .method) in
-        let third = arguments-meet (a .arguments) (c .arguments) in (
-          λ h. let (j, (k, l)) = simp T-and at h in (first .0 j, second .0 k, third .0 l),
-          λ h. simp T-and (first .1 (h .0), (second .1 (h .1), third .1 (h .2))),
+        let more = parts-meet (a .said) (c .said) in (
+          λ h. let (j, k) = simp T-and at h in let l = more .0 k in (first .0 j, l .0, l .1),
+          λ h. simp T-and (first .1 (h .0), more .1 (h .1, h .2)),
         )
 
 module _ (depth : ℕ) where

@@ -18,7 +18,7 @@ use Rattle.scan.specs.declared.tables.LinkAt.{LinkAt}
 use Rattle.scan.specs.declared.tables.ArrowAt.{ArrowAt}
 use Rattle.scan.specs.declared.tables.RuleAt.{RuleAt}
 use Rattle.scan.specs.declared.tables.SignAt.{SignAt}
-use Rattle.text.specs.Read.{links, arrows, Parsed, bad, got, Reader, return, strip, oneOf, each}
+use Rattle.text.specs.Read.{links, arrowTable, Parsed, bad, got, Reader, return, strip, oneOf, each}
 use Rattle.text.specs.Words.{linkWord, arrowWord}
 use Rattle.text.specs.Places.{endOf, readOr}
 
@@ -27,7 +27,7 @@ unfoldable pub readLinkWord : Reader Link
 readLinkWord = oneOf (each linkWord return links)
 
 unfoldable pub readArrowWord : Reader Arrow
-readArrowWord = oneOf (each arrowWord return arrows)
+readArrowWord = oneOf (each arrowWord return arrowTable)
 
 -- Where none stands, the last of the table is named, at no place.
 abbrev pub linkAt : List ℕ → Parsed Link → LinkAt

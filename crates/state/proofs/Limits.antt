@@ -6,13 +6,13 @@ use mathlib.Core.List.{List, [], _∷_}
 use native.Mathlib.Omega.{arith}
 use lib.Dec.{T, leb, ltb, leb→le}
 use lib.ListN.{length}
-use Rattle.logic.specs.Syntax.{Term, var, app, Terms, nil, cons, Atom, link, obj, method, lit, Clause, Step}
+use Rattle.logic.specs.Syntax.{Term, var, app, Terms, nil, cons, Part, part, Atom, link, obj, arrows, lit, Clause, Step}
 use Rattle.logic.specs.Terms.{count, resultTerms}
 use Rattle.logic.specs.Each.{eachTerms, width}
 use Rattle.reader.specs.declared.measures.Bounds.{Bounds}
 use Rattle.text.specs.Figures.{maxArguments}
-use Rattle.state.specs.State.{argumentsFit, argumentsFitAll, anySymbol, clauseFits, listFits}
-use Rattle.reader.specs.Summary.{ofTerm, ofTerms, ofAtom, ofLiteral, ofClause, joined, bounds}
+use Rattle.state.specs.State.{partFits, argumentsFit, argumentsFitAll, anySymbol, clauseFits, listFits}
+use Rattle.reader.specs.Summary.{ofTerm, ofTerms, ofPart, ofAtom, ofLiteral, ofClause, joined, bounds}
 use Rattle.reader.specs.LineAt.{stepOf}
 use Rattle.state.specs.ReadLine.{lineFits, stepMost, stepBounds}
 use Rattle.text.proofs.Tests.{T-and}
@@ -49,11 +49,15 @@ module _ (table : List ℕ) where
   abbrev few : ℕ → Bool
   few n = leb n maxArguments
 
+  part-arguments : (p : Part) → few (ofPart (bounds table) p .arguments) ≡ partFits p
+  unfolding ofPart joined partFits
+  part-arguments (part a m ts r) = let e : ofPart (bounds table) (part a m ts r) .arguments ≡ count ts = omega (arith, term-free m, terms-free ts, terms-free (resultTerms r)) in ap few e
+
   atom-arguments : (x : Atom) → few (ofAtom (bounds table) x .arguments) ≡ argumentsFit x
   unfolding ofAtom joined argumentsFit
   atom-arguments (link l t u) = let e : ofAtom (bounds table) (link l t u) .arguments ≡ 0 = omega (arith, term-free t, term-free u) in ap few e
   atom-arguments (obj t) = ap few (term-free t)
-  atom-arguments (method a o m ts r) = let e : ofAtom (bounds table) (method a o m ts r) .arguments ≡ count ts = omega (arith, term-free o, term-free m, terms-free ts, terms-free (resultTerms r)) in ap few e
+  atom-arguments (arrows o p) = let e : ofAtom (bounds table) (arrows o p) .arguments ≡ ofPart (bounds table) p .arguments = omega (arith, term-free o) in ap few e ∙ part-arguments p
 
   clause-arguments : (c : Clause) → few (ofClause (bounds table) c .arguments) ≡ argumentsFitAll c
   unfolding ofClause ofLiteral joined argumentsFitAll

@@ -4,7 +4,7 @@ use mathlib.Core.Bool.{Bool, true, false, cond, _&&_, _||_}
 use mathlib.Core.List.{List, [], _∷_, _++_, map}
 use lib.Dec.{T, leb, ltb, eqb}
 use lib.ListN.{length}
-use Rattle.logic.specs.Syntax.{Term, Terms, Atom, link, obj, method, Literal, lit, Clause, Step, Line, sym, input, by}
+use Rattle.logic.specs.Syntax.{Term, Terms, Part, part, Atom, link, obj, arrows, Literal, lit, Clause, Step, Line, sym, input, by}
 use Rattle.logic.specs.Terms.{count, termsOf}
 use Rattle.logic.specs.Each.{eachTerms, eachClause, declares, any}
 use Rattle.text.specs.Form.{Reading, form, noForm}
@@ -56,10 +56,13 @@ constantReady st (input c) = hasConstant (st .symbols)
 constantReady st (by s) = hasConstant (st .symbols)
 
 -- V15, check 5: "another limit is passed" (T18).
+unfoldable pub partFits : Part → Bool
+partFits (part a m ts r) = leb (count ts) maxArguments
+
 unfoldable pub argumentsFit : Atom → Bool
 argumentsFit (link l t u) = true
 argumentsFit (obj t) = true
-argumentsFit (method a o m ts r) = leb (count ts) maxArguments
+argumentsFit (arrows o p) = partFits p
 
 unfoldable pub argumentsFitAll : Clause → Bool
 argumentsFitAll [] = true

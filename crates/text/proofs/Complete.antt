@@ -10,11 +10,11 @@ use Rattle.logic.specs.declared.Link.the-variants.{Eq, Mem, Sub}
 use Rattle.logic.specs.declared.Arrow.{Arrow}
 use Rattle.logic.specs.declared.Arrow.the-variants.{Sv, Si, Mv, Mi, St, Mt}
 use Rattle.logic.specs.declared.Rule.the-variants.{Refl, Res, Fac, Par, Acy, Tra, Inc, Inh, Inp, Out, Sca, Eli}
-use Rattle.logic.specs.Syntax.{Term, var, app, Terms, nil, cons, Result, value, none, mayBeNone, link, obj, method, lit, Line, sym, input, by}
+use Rattle.logic.specs.Syntax.{Term, var, app, Terms, nil, cons, Result, value, none, mayBeNone, Part, part, arrowOf, link, obj, arrows, lit, Line, sym, input, by}
 use Rattle.text.specs.Words.{bytes, signWord, linkWord, arrowWord, ruleWord}
-use Rattle.text.specs.Write.{_∘_, word, putTerm, putTerms, putArguments, putResult, putAtom, putLiteral, putClause, putLet, putStep, putLine, writeLine}
-use Rattle.text.specs.Form.{formedTerm, formedTerms, formedResult, formedAtom, formedLiteral, formedClause, formedStep, formedLine, form}
-use Rattle.text.specs.Read.{bad, got, Reader, strip, oneOf, digit, readTerms, readVariable, readApplied, readTerm, readArguments, readResult, readLink, readObject, readMethod, readKind, readAtom, readSign, readLiteral, readClause, readLet, readRule, readSym, readInput, readStep, readForm, whole, readLine}
+use Rattle.text.specs.Write.{_∘_, word, putTerm, putTerms, putArguments, putResult, putPart, putAtom, putLiteral, putClause, putLet, putStep, putLine, writeLine}
+use Rattle.text.specs.Form.{formedTerm, formedTerms, formedResult, formedPart, formedAtom, formedLiteral, formedClause, formedStep, formedLine, form}
+use Rattle.text.specs.Read.{bad, got, Reader, strip, oneOf, digit, readTerms, readVariable, readApplied, readTerm, readArguments, readResult, readLink, readObject, readPart, readMethod, readKind, readAtom, readSign, readLiteral, readClause, readLet, readRule, readSym, readInput, readStep, readForm, whole, readLine}
 use Rattle.text.proofs.Tests.{T-and, onTest}
 use Rattle.text.proofs.Gives.{Complete}
 use Rattle.text.proofs.Formed.{var-formed, app-formed, no-depth}
@@ -75,15 +75,21 @@ pub rule-complete : Complete (λ r. word (ruleWord r)) (λ _. Unit {0}) readRule
 unfolding readRule oneOf strip
 rule-complete r _ rest = elim r [ Refl ↦ refl | Res ↦ refl | Fac ↦ refl | Par ↦ refl | Acy ↦ refl | Tra ↦ refl | Inc ↦ refl | Inh ↦ refl | Inp ↦ refl | Out ↦ refl | Sca ↦ refl | Eli ↦ refl ]
 
+part-complete : (d : ℕ) (p : Part) → T (formedPart d p) → (rest : List ℕ) → readPart d (arrowOf p) (putPart p rest) ≡ got p rest
+unfolding readPart strip putPart formedPart
+part-complete d (part a m ts r) f rest =
+    let ((g, h), i) = simp T-and at f in
+    rw (term-complete d m g _, arguments-complete d ts h _, result-complete d a r i _)
+
 pub atom-complete : (d : ℕ) → Complete putAtom (λ a. T (formedAtom d a)) (readAtom d)
 unfolding readAtom readKind readLink readObject readMethod oneOf strip putAtom formedAtom
 atom-complete d (link l t u) f rest =
     let (g, h) = simp T-and at f in
     rw (link-kind d l, term-complete d t g _, term-complete d u h _)
 atom-complete d (obj t) f rest = rw (term-complete d t f (41 ∷ rest))
-atom-complete d (method a o m ts r) f rest =
-    let ((h, i), j) = simp T-and at f in
-    rw (arrow-kind d a, term-complete d o (h .0) _, term-complete d m (h .1) _, arguments-complete d ts i _, result-complete d a r j _)
+atom-complete d (arrows o p) f rest =
+    let (g, h) = simp T-and at f in
+    rw (arrow-kind d (arrowOf p), term-complete d o g _, part-complete d p h rest)
 
 pub literal-complete : (d : ℕ) → Complete putLiteral (λ l. T (formedLiteral d l)) (readLiteral d)
 unfolding readLiteral strip putLiteral formedLiteral

@@ -6,16 +6,16 @@ use mathlib.Core.Path.{_≡_}
 use native.Mathlib.Omega.{arith}
 use lib.Dec.{T, leb, le→leb}
 use Rattle.logic.specs.declared.Arrow.{Arrow}
-use Rattle.logic.specs.Syntax.{Term, var, app, Terms, nil, cons, Result, value, none, Atom, link, obj, method, lit, Clause, mayBeNone}
-use Rattle.logic.specs.Terms.{termsOf, join, resultTerms}
-use Rattle.logic.specs.Each.{eachTerm, eachTerms, atomOver, allowed, allowedResult}
+use Rattle.logic.specs.Syntax.{Term, var, app, Terms, nil, cons, Result, value, none, Part, part, Atom, link, obj, arrows, lit, Clause, mayBeNone}
+use Rattle.logic.specs.Terms.{partTerms, termsOf, join, resultTerms}
+use Rattle.logic.specs.Each.{eachTerm, eachTerms, atomOver, allowedPart, allowedResult}
 use Rattle.logic.proofs.Both.{left, right, both}
-use Rattle.logic.proofs.Parts.{link-parts, link-over, obj-part, obj-over, arrow-parts, arrow-over, arrow-allowed}
+use Rattle.logic.proofs.Parts.{link-parts, link-over, obj-part, obj-over, PartOver, arrow-parts, arrow-over, part-parts, part-over}
 use Rattle.logic.specs.Fill.{entries}
 use Rattle.logic.proofs.Ground.{entry-each}
 use Rattle.logic.proofs.Over.{Over}
 use Rattle.text.specs.Write.{putClause}
-use Rattle.text.specs.Form.{formedNumber, depthOf, depthOfs, numbered, numbereds, formedTerm, formedTerms, formedResult, formedAtom, formedLiteral, formedClause}
+use Rattle.text.specs.Form.{formedNumber, depthOf, depthOfs, numbered, numbereds, formedTerm, formedTerms, formedResult, formedPart, formedAtom, formedLiteral, formedClause}
 use Rattle.text.proofs.Unique.{clause-unique}
 
 -- A symbol's number is a number N.
@@ -77,18 +77,20 @@ unfolding formedResult resultTerms depthOf allowedResult eachTerm
 result-formed d a (value t) h k w = term-formed d t (omega arith) (left (eachTerm formedNumber formedSymbol t) true w)
 result-formed d a none h k w = k
 
+part-formed : (d : ℕ) (p : Part) → depthOfs (partTerms p) ≤ d → PartOver formedNumber formedSymbol p → T (formedPart d p)
+unfolding formedPart partTerms depthOf allowedPart
+part-formed d (part a m ts r) h k =
+    let w = part-parts formedNumber formedSymbol a m ts r k in
+    let e = join-depth ts (resultTerms r) in
+    both (formedTerm d m && formedTerms d ts) (formedResult d a r)
+    (both (formedTerm d m) (formedTerms d ts) (term-formed d m (omega arith) (w .0)) (terms-formed-deep d ts (omega arith) (w .1)))
+    (result-formed d a r (omega arith) (k .0) (w .2))
+
 pub atom-formed : (d : ℕ) (x : Atom) → atomDepth x ≤ d → T (atomOver formedNumber formedSymbol x) → T (formedAtom d x)
 unfolding formedAtom atomDepth termsOf depthOf
 atom-formed d (link l t u) h k = let w = link-parts formedNumber formedSymbol l t u k in both (formedTerm d t) (formedTerm d u) (term-formed d t (omega arith) (w .0)) (term-formed d u (omega arith) (w .1))
 atom-formed d (obj t) h k = term-formed d t (omega arith) (obj-part formedNumber formedSymbol t k)
-atom-formed d (method a o m ts r) h k =
-    let w = arrow-parts formedNumber formedSymbol a o m ts r k in
-    let e = join-depth ts (resultTerms r) in
-    both (formedTerm d o && formedTerm d m && formedTerms d ts) (formedResult d a r)
-    (both (formedTerm d o && formedTerm d m) (formedTerms d ts)
-    (both (formedTerm d o) (formedTerm d m) (term-formed d o (omega arith) (w .0)) (term-formed d m (omega arith) (w .1)))
-    (terms-formed-deep d ts (omega arith) (w .2)))
-    (result-formed d a r (omega arith) (arrow-allowed formedNumber formedSymbol a o m ts r k) (w .3))
+atom-formed d (arrows o p) h k = let w = arrow-parts formedNumber formedSymbol o p k in both (formedTerm d o) (formedPart d p) (term-formed d o (omega arith) (w .0)) (part-formed d p (omega arith) (w .1))
 
 pub over-formed : (d : ℕ) (c : Clause) → clauseDepth c ≤ d → Over formedNumber formedSymbol c → T (formedClause d c)
 unfolding formedClause formedLiteral clauseDepth Over
@@ -115,21 +117,20 @@ unfolding formedResult allowedResult resultTerms eachTerm
 formed-result d a (value t) h = (tt, both (eachTerm formedNumber formedSymbol t) true (formed-numbered d t h) tt)
 formed-result d a none h = (h, tt)
 
+formed-part : (d : ℕ) (p : Part) → T (formedPart d p) → PartOver formedNumber formedSymbol p
+unfolding formedPart
+formed-part d (part a m ts r) h =
+    let w = left (formedTerm d m && formedTerms d ts) (formedResult d a r) h in
+    let z = formed-result d a r (right (formedTerm d m && formedTerms d ts) (formedResult d a r) h) in
+    part-over formedNumber formedSymbol a m ts r (z .0) (formed-numbered d m (left (formedTerm d m) (formedTerms d ts) w), formeds-numbered d ts (right (formedTerm d m) (formedTerms d ts) w), z .1)
+
 formed-atom : (d : ℕ) (x : Atom) → T (formedAtom d x) → T (atomOver formedNumber formedSymbol x)
-unfolding formedAtom allowed
+unfolding formedAtom
 formed-atom d (link l t u) h =
     link-over formedNumber formedSymbol l t u (formed-numbered d t (left (formedTerm d t) (formedTerm d u) h)) (formed-numbered d u (right (formedTerm d t) (formedTerm d u) h))
 formed-atom d (obj t) h = obj-over formedNumber formedSymbol t (formed-numbered d t h)
-formed-atom d (method a o m ts r) h =
-    let w = left (formedTerm d o && formedTerm d m && formedTerms d ts) (formedResult d a r) h in
-    let v = left (formedTerm d o && formedTerm d m) (formedTerms d ts) w in
-    let z = formed-result d a r (right (formedTerm d o && formedTerm d m && formedTerms d ts) (formedResult d a r) h) in
-    arrow-over formedNumber formedSymbol a o m ts r (z .0) (
-      formed-numbered d o (left (formedTerm d o) (formedTerm d m) v),
-      formed-numbered d m (right (formedTerm d o) (formedTerm d m) v),
-      formeds-numbered d ts (right (formedTerm d o && formedTerm d m) (formedTerms d ts) w),
-      z .1,
-    )
+formed-atom d (arrows o p) h =
+    arrow-over formedNumber formedSymbol o p (formed-numbered d o (left (formedTerm d o) (formedPart d p) h)) (formed-part d p (right (formedTerm d o) (formedPart d p) h))
 
 pub formed-over : (d : ℕ) (c : Clause) → T (formedClause d c) → Over formedNumber formedSymbol c
 unfolding formedClause formedLiteral Over

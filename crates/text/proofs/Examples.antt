@@ -12,7 +12,7 @@ use Rattle.logic.specs.Syntax.{Term, var, app, nil, cons, link, lit, Line, sym,
 use Rattle.text.specs.Words.{bytes}
 use Rattle.text.specs.Write.{putDigits, putNumber, putTerm, putAtom, putLiteral, putLiterals, putClause, putLet, putStep, putLine, writeLines}
 use Rattle.text.specs.Form.{Reading, form, noForm}
-use Rattle.text.specs.Read.{bad, got, strip, oneOf, digit, goesOn, readDigits, readNumber, readNext, readItems, readMany, readVariable, readApplied, readTerm, readArguments, readResult, readLink, readObject, readMethod, readKind, readAtom, readSign, readLiteral, readClause, readLet, readRule, readSym, readInput, readStep, readForm, whole, readLine, readRaw}
+use Rattle.text.specs.Read.{bad, got, strip, oneOf, digit, goesOn, readDigits, readNumber, readNext, readItems, readMany, readVariable, readApplied, readTerm, readArguments, readResult, readLink, readObject, readMethod, readPart, readKind, readAtom, readSign, readLiteral, readClause, readLet, readRule, readSym, readInput, readStep, readForm, whole, readLine, readRaw}
 use Rattle.text.specs.Split.{ended, unended, push, split}
 
 abbrev text : List ℕ
@@ -50,11 +50,11 @@ formsAre b [] = true
 formsAre b (w ∷ ws) = Bool·beq b (isForm (readLine 16 (bytes w))) && formsAre b ws
 
 forms : T (formsAre true ("(sym 65535)" ∷ "(sym 0)" ∷ "(sym 10)" ∷ "(in (or))" ∷ "(in (or (+ (sv (f 0) (v 7) () (f 1 (f 2) (v 0))))))" ∷ "(in (or (- (mt (f 0) (f 0) ((f 0) (f 1)) none)) (+ (obj (v 1)))))" ∷ []))
-unfolding readLine readForm whole readSym readInput readClause readLiteral readSign readAtom readKind readObject readMethod readArguments readResult readTerm readApplied readVariable readMany readItems readNext readNumber readDigits goesOn digit oneOf strip mayBeNone
+unfolding readLine readForm whole readSym readInput readClause readLiteral readSign readAtom readKind readObject readMethod readPart readArguments readResult readTerm readApplied readVariable readMany readItems readNext readNumber readDigits goesOn digit oneOf strip mayBeNone
 forms = tt
 
 others : T (formsAre false ("(sym 65536)" ∷ "(sym 00)" ∷ "(sym 01)" ∷ "(sym )" ∷ "(sym 1) " ∷ " (sym 1)" ∷ "(sym  1)" ∷ "" ∷ "(in (or ))" ∷ "(by non 0 0 0 0 0 (let) (let) (or))" ∷ "(in (or (+ (sv (f 0) (f 0) () none))))" ∷ "(in (or (+ (sv (f 0) (f 0) ( (f 0)) (f 0)))))" ∷ []))
-unfolding readLine readForm whole readSym readInput readStep readRule readClause readLiteral readSign readAtom readKind readMethod readArguments readResult readTerm readApplied readMany readItems readNext readNumber readDigits goesOn digit oneOf strip mayBeNone
+unfolding readLine readForm whole readSym readInput readStep readRule readClause readLiteral readSign readAtom readKind readMethod readPart readArguments readResult readTerm readApplied readMany readItems readNext readNumber readDigits goesOn digit oneOf strip mayBeNone
 others = tt
 
 -- depth 16 and 17

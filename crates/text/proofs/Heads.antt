@@ -8,9 +8,9 @@ use lib.Dec.{T, eqb, eqb→eq, eqb-refl}
 use Rattle.logic.specs.declared.Sign.the-variants.{Positive, Negative}
 use Rattle.logic.specs.declared.Link.the-variants.{Eq, Mem, Sub}
 use Rattle.logic.specs.declared.Arrow.the-variants.{Sv, Si, Mv, Mi, St, Mt}
-use Rattle.logic.specs.Syntax.{Atom, link, obj, method, lit}
+use Rattle.logic.specs.Syntax.{part, arrowOf, Atom, link, obj, arrows, lit}
 use Rattle.text.specs.Words.{bytes}
-use Rattle.text.specs.Write.{Writer, _∘_, word, putTerm, putArguments, putResult, putAtom, putLiteral}
+use Rattle.text.specs.Write.{Writer, _∘_, word, putTerm, putPart, putAtom, putLiteral}
 use Rattle.text.specs.Read.{bad, got, strip}
 use Rattle.text.specs.Heads.{linkKind, arrowKind, kindNumber, head}
 use Rattle.text.proofs.Tests.{holds}
@@ -41,7 +41,7 @@ strip-same (a ∷ v) rest = rw (holds (eqb a a) (eqb-refl a)) (strip-same v rest
 unfoldable pub afterHead : Atom → Writer
 afterHead (link l t u) = putTerm t ∘ word " " ∘ putTerm u ∘ word ")"
 afterHead (obj t) = putTerm t ∘ word ")"
-afterHead (method a o m ts r) = putTerm o ∘ word " " ∘ putTerm m ∘ word " " ∘ putArguments ts ∘ word " " ∘ putResult r ∘ word ")"
+afterHead (arrows o p) = putTerm o ∘ word " " ∘ putPart p
 
 pub atom-head : (x : Atom) (rest : List ℕ) → putAtom x rest ≡ head (kindNumber x) ++ afterHead x rest
 unfolding putAtom afterHead kindNumber
@@ -49,12 +49,12 @@ atom-head (link Eq t u) rest = refl
 atom-head (link Mem t u) rest = refl
 atom-head (link Sub t u) rest = refl
 atom-head (obj t) rest = refl
-atom-head (method Sv o m ts r) rest = refl
-atom-head (method Si o m ts r) rest = refl
-atom-head (method Mv o m ts r) rest = refl
-atom-head (method Mi o m ts r) rest = refl
-atom-head (method St o m ts r) rest = refl
-atom-head (method Mt o m ts r) rest = refl
+atom-head (arrows o (part Sv m ts r)) rest = refl
+atom-head (arrows o (part Si m ts r)) rest = refl
+atom-head (arrows o (part Mv m ts r)) rest = refl
+atom-head (arrows o (part Mi m ts r)) rest = refl
+atom-head (arrows o (part St m ts r)) rest = refl
+atom-head (arrows o (part Mt m ts r)) rest = refl
 
 -- Heads of different kinds differ: one test over all pairs.
 abbrev ten : List ℕ
@@ -74,8 +74,8 @@ kind-below : (x : Atom) → kindNumber x < 10
 unfolding kindNumber
 kind-below (link l t u) = (elim l as (λ l. linkKind l < 10) [ Eq ↦ omega arith | Mem ↦ omega arith | Sub ↦ omega arith ])
 kind-below (obj t) = omega arith
-kind-below (method a o m ts r) =
-    (elim a as (λ a. arrowKind a < 10) [ Sv ↦ omega arith | Si ↦ omega arith | Mv ↦ omega arith | Mi ↦ omega arith | St ↦ omega arith | Mt ↦ omega arith ])
+kind-below (arrows o p) =
+    (elim (arrowOf p) as (λ a. arrowKind a < 10) [ Sv ↦ omega arith | Si ↦ omega arith | Mv ↦ omega arith | Mi ↦ omega arith | St ↦ omega arith | Mt ↦ omega arith ])
 
 -- Stripping a head off an atom.
 pub head-of : (x : Atom) (rest : List ℕ) → strip (head (kindNumber x)) (putAtom x rest) ≡ got tt (afterHead x rest)

@@ -18,7 +18,7 @@ use Rattle.text.specs.Access.{closing, skipItem, passItem, toItem, openi
 use Rattle.text.proofs.Tests.{T-and}
 use Rattle.text.proofs.Positions.{pass-tail, landed}
 use Rattle.text.proofs.Plain.{Plain, number-plain, term-plain, in-front}
-use Rattle.text.proofs.Trees.{Tree, var, node, Trees, end, byte, part, putTree, putInside, inner, Inner, Clean, CleanIn, numberBytes, number-inner, put-term, put-arguments, put-atom, put-literal, put-clause, put-let, clean-term, clean-arguments, clean-atom, clean-literal, clean-clause, clean-let}
+use Rattle.text.proofs.Trees.{Tree, var, node, Trees, end, byte, bracket, putTree, putInside, inner, Inner, Clean, CleanIn, numberBytes, number-inner, put-term, put-arguments, put-atom, put-literal, put-clause, put-let, clean-term, clean-arguments, clean-atom, clean-literal, clean-clause, clean-let}
 
 -- A byte that is no bracket.
 pub inner-tests : (b : ℕ) → T (inner b) → (eqb b 40 ≡ false) × (eqb b 41 ≡ false)
@@ -51,7 +51,7 @@ mutual
   closing-inside : (ts : Trees) → CleanIn ts → (n : ℕ) (rest : List ℕ) → closing n (putInside ts rest) ≡ closing n rest
   closing-inside end h n rest = refl
   closing-inside (byte b ts) h n rest = let (i, j) = inner-tests b (h .0) in rw (i, j, closing-inside ts (h .1) n rest)
-  closing-inside (part t ts) h n rest = closing-tree t (h .0) n (putInside ts rest) ∙ closing-inside ts (h .1) n rest
+  closing-inside (bracket t ts) h n rest = closing-tree t (h .0) n (putInside ts rest) ∙ closing-inside ts (h .1) n rest
 
 pub skip-tree : (t : Tree) → Clean t → (rest : List ℕ) → skipItem (putTree t rest) ≡ got tt rest
 unfolding skipItem putTree strip closing

@@ -15,9 +15,9 @@ use Rattle.logic.specs.declared.Arrow.{Arrow}
 use Rattle.logic.specs.declared.Arrow.the-variants.{Sv, Si, Mv, Mi, St, Mt}
 use Rattle.logic.specs.declared.Rule.{Rule}
 use Rattle.logic.specs.declared.Rule.the-variants.{Refl, Res, Fac, Par, Acy, Tra, Inc, Inh, Inp, Out, Sca, Eli}
-use Rattle.logic.specs.Syntax.{Term, var, app, Terms, nil, cons, Result, value, none, Atom, link, obj, method, Literal, lit, Clause, Step, Line, input, by}
+use Rattle.logic.specs.Syntax.{Term, var, app, Terms, nil, cons, Result, value, none, Part, part, arrowOf, Atom, link, obj, arrows, Literal, lit, Clause, Step, Line, input, by}
 use Rattle.text.specs.Words.{bytes, lineEnd, signWord, linkWord, arrowWord, ruleWord}
-use Rattle.text.specs.Write.{Writer, _∘_, word, digitByte, putDigits, putNumber, putTerm, putTerms, putArguments, putResult, putAtom, putLiteral, putLiterals, putClause, putLet, putStep, putLine}
+use Rattle.text.specs.Write.{Writer, _∘_, word, digitByte, putDigits, putNumber, putTerm, putTerms, putArguments, putResult, putPart, putAtom, putLiteral, putLiterals, putClause, putLet, putStep, putLine}
 use Rattle.text.proofs.Tests.{T-and}
 
 -- No byte is a line end.
@@ -96,11 +96,15 @@ unfolding putResult
 result-plain (value t) = term-plain t
 result-plain none = plain "none" tt
 
+pub part-plain : (p : Part) → Plain (putPart p)
+unfolding putPart
+part-plain (part a m ts r) = term-plain m ⨾ space ⨾ arguments-plain ts ⨾ space ⨾ result-plain r ⨾ close
+
 pub atom-plain : (a : Atom) → Plain (putAtom a)
 unfolding putAtom
 atom-plain (link l t u) = plain "(" tt ⨾ link-plain l ⨾ space ⨾ term-plain t ⨾ space ⨾ term-plain u ⨾ close
 atom-plain (obj t) = plain "(obj " tt ⨾ term-plain t ⨾ close
-atom-plain (method a o m ts r) = plain "(" tt ⨾ arrow-plain a ⨾ space ⨾ term-plain o ⨾ space ⨾ term-plain m ⨾ space ⨾ arguments-plain ts ⨾ space ⨾ result-plain r ⨾ close
+atom-plain (arrows o p) = plain "(" tt ⨾ arrow-plain (arrowOf p) ⨾ space ⨾ term-plain o ⨾ space ⨾ part-plain p
 
 pub literal-plain : (l : Literal) → Plain (putLiteral l)
 unfolding putLiteral

@@ -5,11 +5,11 @@ use mathlib.Core.Path.{_≡_, refl}
 use mathlib.Core.List.{List, [], _∷_, _++_}
 use lib.Dec.{T}
 use Rattle.logic.specs.declared.Arrow.{Arrow}
-use Rattle.logic.specs.Syntax.{mayBeNone, link, method, Line}
-use Rattle.text.specs.Read.{signs, links, arrows, rules, Parsed, bad, got, return, oneOf, each, readVariable, readApplied, readTerm, readArguments, readResult, readLink, readObject, readMethod, readKind, readAtom, readSign, readLiteral, readClause, readLet, readRule, readSym, readInput, readStep, readForm, whole, readLine}
+use Rattle.logic.specs.Syntax.{mayBeNone, part, arrowOf, link, arrows, Line}
+use Rattle.text.specs.Read.{signs, links, arrowTable, rules, Parsed, bad, got, return, oneOf, each, readVariable, readApplied, readTerm, readArguments, readResult, readLink, readObject, readPart, readMethod, readKind, readAtom, readSign, readLiteral, readClause, readLet, readRule, readSym, readInput, readStep, readForm, whole, readLine}
 use Rattle.text.specs.Words.{signWord, linkWord, arrowWord, ruleWord}
-use Rattle.text.specs.Write.{word, putTerm, putArguments, putResult, putAtom, putLiteral, putClause, putLet, putStep, putLine, writeLine}
-use Rattle.text.specs.Form.{formedTerm, formedTerms, formedResult, formedAtom, formedLiteral, formedClause, formedStep, formedLine, form}
+use Rattle.text.specs.Write.{word, putTerm, putArguments, putResult, putPart, putAtom, putLiteral, putClause, putLet, putStep, putLine, writeLine}
+use Rattle.text.specs.Form.{formedTerm, formedTerms, formedResult, formedPart, formedAtom, formedLiteral, formedClause, formedStep, formedLine, form}
 use Rattle.text.proofs.Tests.{T-and, onTest}
 use Rattle.text.proofs.Gives.{nothing, given, Meets, Sound, seq, finally, skipped, returned, none as noBranch, branch, branches, oneOf-meets}
 use Rattle.text.proofs.Formed.{var-formed, app-formed}
@@ -35,16 +35,20 @@ result-sound d a =
     oneOf-meets (branch (onTest (Meets _) (mayBeNone a) (λ t. returned λ rest. (refl, t)) (λ _. record { at = λ bs. nothing }))
     (branch (seq (term-sound d) λ t f. returned λ rest. (refl, f)) noBranch))
 
+pub part-sound : (d : ℕ) (a : Arrow) → Sound putPart (λ p. (arrowOf p ≡ a) × T (formedPart d p)) (readPart d a)
+unfolding readPart putPart formedPart
+part-sound d a =
+    seq (term-sound d) λ m f. skipped " " (seq (arguments-sound d) λ ts g. skipped " " (seq (result-sound d a) λ r h. skipped ")"
+    (returned {a = part a m ts r} λ rest. (refl, (refl, simp T-and ((f, g), h))))))
+
 pub atom-sound : (d : ℕ) → Sound putAtom (λ a. T (formedAtom d a)) (readAtom d)
 unfolding readAtom readKind readLink readObject readMethod putAtom formedAtom
 atom-sound d =
     skipped "(" (oneOf-meets
     (branches linkWord links (λ l. skipped " " (seq (term-sound d) λ t f. skipped " " (seq (term-sound d) λ u g. skipped ")" (returned {a = link l t u} λ rest. (refl, simp T-and (f, g))))))
     (branch (skipped " " (seq (term-sound d) λ t f. skipped ")" (returned λ rest. (refl, f))))
-    (branches arrowWord arrows (λ a.
-    skipped " " (seq (term-sound d) λ o f. skipped " " (seq (term-sound d) λ m g.
-    skipped " " (seq (arguments-sound d) λ ts h. skipped " " (seq (result-sound d a) λ r i. skipped ")"
-    (returned {a = method a o m ts r} λ rest. (refl, simp T-and (((f, g), h), i)))))))) noBranch))))
+    (branches arrowWord arrowTable (λ a. skipped " " (seq (term-sound d) λ o f. skipped " " (seq (part-sound d a) λ p g.
+    returned {a = arrows o p} λ rest. (rw (g .0), simp T-and (f, g .1))))) noBranch))))
 
 -- a word of a table
 pub table-sound : {A : Type 0} (w : A → String) (table : List A) → Sound (λ a. word (w a)) (λ _. Unit {0}) (oneOf (each w return table ++ []))

@@ -11,12 +11,12 @@ use Rattle.logic.specs.declared.Link.{Link}
 use Rattle.logic.specs.declared.Link.the-variants.{Eq, Mem, Sub}
 use Rattle.logic.specs.declared.Arrow.{Arrow}
 use Rattle.logic.specs.declared.Arrow.the-variants.{Sv, Si, Mv, Mi, St, Mt}
-use Rattle.logic.specs.Syntax.{Term, var as variable, app, Terms, nil, cons, Result, value, none, Atom, link, obj, method, Literal, lit, Clause}
-use Rattle.logic.specs.Terms.{join, termsOf, resultTerms}
+use Rattle.logic.specs.Syntax.{Term, var as variable, app, Terms, nil, cons, Result, value, none, Part, part, arrowOf, Atom, link, obj, arrows, Literal, lit, Clause}
+use Rattle.logic.specs.Terms.{join, partTerms, termsOf, resultTerms}
 use Rattle.logic.specs.Each.{termWidth, termsWidth}
 use Rattle.text.specs.Words.{bytes, signWord, linkWord, arrowWord}
-use Rattle.text.specs.Write.{Writer, word, digitByte, putDigits, putNumber, putTerm, putTerms, putArguments, putResult, putAtom, putLiteral, putLiterals, putClause, putLet}
-use Rattle.text.specs.Form.{formedNumber, formedTerm, formedTerms, formedResult, formedAtom}
+use Rattle.text.specs.Write.{Writer, word, digitByte, putDigits, putNumber, putTerm, putTerms, putArguments, putResult, putPart, putAtom, putLiteral, putLiterals, putClause, putLet}
+use Rattle.text.specs.Form.{formedNumber, formedTerm, formedTerms, formedResult, formedPart, formedAtom}
 use Rattle.text.proofs.Tests.{T-and}
 use Rattle.text.proofs.Formed.{var-formed, app-formed, no-depth, terms-formed}
 use Rattle.text.proofs.Plain.{number-plain, in-front}
@@ -30,7 +30,7 @@ mutual
   pub data Trees : Type 0 where
     end : Trees
     byte : ℕ → Trees → Trees
-    part : Tree → Trees → Trees
+    bracket : Tree → Trees → Trees
 
 unfoldable mutual
   pub putTree : Tree → Writer
@@ -40,7 +40,7 @@ unfoldable mutual
   pub putInside : Trees → Writer
   putInside end rest = rest
   putInside (byte b ts) rest = b ∷ putInside ts rest
-  putInside (part t ts) rest = putTree t (putInside ts rest)
+  putInside (bracket t ts) rest = putTree t (putInside ts rest)
 
 -- A byte that is no bracket.
 abbrev pub inner : ℕ → Bool
@@ -50,7 +50,7 @@ inner b = not (eqb b 40) && not (eqb b 41)
 abbrev pub opens : Trees → Bool
 opens end = true
 opens (byte b ts) = not (eqb b 118)
-opens (part t ts) = true
+opens (bracket t ts) = true
 
 abbrev mutual
   pub Clean : Tree → Type 0
@@ -60,7 +60,7 @@ abbrev mutual
   pub CleanIn : Trees → Type 0
   CleanIn end = Unit {0}
   CleanIn (byte b ts) = T (inner b) × CleanIn ts
-  CleanIn (part t ts) = Clean t × CleanIn ts
+  CleanIn (bracket t ts) = Clean t × CleanIn ts
 
 -- At most d brackets deep, and P of each variable.
 abbrev mutual
@@ -73,7 +73,7 @@ abbrev mutual
   pub WithinIn : (ℕ → Type 0) → Trees → ℕ → Type 0
   WithinIn P end d = Unit {0}
   WithinIn P (byte b ts) d = WithinIn P ts d
-  WithinIn P (part t ts) d = Within P t d × WithinIn P ts d
+  WithinIn P (bracket t ts) d = Within P t d × WithinIn P ts d
 
 -- Bytes in front.
 unfoldable pub texts : List ℕ → Trees → Trees
@@ -127,27 +127,30 @@ unfoldable mutual
 
   pub treeTerms : Terms → Trees
   treeTerms nil = end
-  treeTerms (cons t ts) = byte 32 (part (treeTerm t) (treeTerms ts))
+  treeTerms (cons t ts) = byte 32 (bracket (treeTerm t) (treeTerms ts))
 
 unfoldable pub treeArguments : Terms → Tree
 treeArguments nil = node end
-treeArguments (cons t ts) = node (part (treeTerm t) (treeTerms ts))
+treeArguments (cons t ts) = node (bracket (treeTerm t) (treeTerms ts))
 
 unfoldable pub treeResult : Result → Trees
-treeResult (value t) = part (treeTerm t) end
+treeResult (value t) = bracket (treeTerm t) end
 treeResult none = texts (bytes "none") end
 
+unfoldable pub treePart : Part → Trees
+treePart (part a m ts r) = bracket (treeTerm m) (byte 32 (bracket (treeArguments ts) (byte 32 (treeResult r))))
+
 unfoldable pub treeAtom : Atom → Tree
-treeAtom (link l t u) = node (texts (bytes (linkWord l)) (byte 32 (part (treeTerm t) (byte 32 (part (treeTerm u) end)))))
-treeAtom (obj t) = node (texts (bytes "obj ") (part (treeTerm t) end))
-treeAtom (method a o m ts r) = node (texts (bytes (arrowWord a)) (byte 32 (part (treeTerm o) (byte 32 (part (treeTerm m) (byte 32 (part (treeArguments ts) (byte 32 (treeResult r)))))))))
+treeAtom (link l t u) = node (texts (bytes (linkWord l)) (byte 32 (bracket (treeTerm t) (byte 32 (bracket (treeTerm u) end)))))
+treeAtom (obj t) = node (texts (bytes "obj ") (bracket (treeTerm t) end))
+treeAtom (arrows o p) = node (texts (bytes (arrowWord (arrowOf p))) (byte 32 (bracket (treeTerm o) (byte 32 (treePart p)))))
 
 unfoldable pub treeLiteral : Literal → Tree
-treeLiteral (lit s a) = node (texts (bytes (signWord s)) (byte 32 (part (treeAtom a) end)))
+treeLiteral (lit s a) = node (texts (bytes (signWord s)) (byte 32 (bracket (treeAtom a) end)))
 
 unfoldable pub treeLiterals : Clause → Trees
 treeLiterals [] = end
-treeLiterals (l ∷ c) = byte 32 (part (treeLiteral l) (treeLiterals c))
+treeLiterals (l ∷ c) = byte 32 (bracket (treeLiteral l) (treeLiterals c))
 
 unfoldable pub treeClause : Clause → Tree
 treeClause c = node (byte 111 (byte 114 (treeLiterals c)))
@@ -177,11 +180,15 @@ unfolding putResult treeResult putInside texts
 put-result (value t) rest = put-term t rest
 put-result none rest = refl
 
+pub put-part : (p : Part) (rest : List ℕ) → putPart p rest ≡ putInside (treePart p) (41 ∷ rest)
+unfolding putPart treePart putTree
+put-part (part a m ts r) rest = rw (put-result r _, put-arguments ts _, put-term m _)
+
 pub put-atom : (a : Atom) (rest : List ℕ) → putAtom a rest ≡ putTree (treeAtom a) rest
 unfolding putAtom treeAtom putTree
 put-atom (link l t u) rest = rw (put-texts, put-term u _, put-term t _)
 put-atom (obj t) rest = rw (put-texts, put-term t _)
-put-atom (method a o m ts r) rest = rw (put-texts, put-result r _, put-arguments ts _, put-term m _, put-term o _)
+put-atom (arrows o p) rest = rw (put-texts, put-part p rest, put-term o _)
 
 pub put-literal : (l : Literal) (rest : List ℕ) → putLiteral l rest ≡ putTree (treeLiteral l) rest
 unfolding putLiteral treeLiteral putTree
@@ -222,22 +229,26 @@ unfolding treeResult texts
 clean-result (value t) = (clean-term t, tt)
 clean-result none = (tt, (tt, (tt, (tt, tt))))
 
+clean-part : (p : Part) → CleanIn (treePart p)
+unfolding treePart
+clean-part (part a m ts r) = (clean-term m, (tt, (clean-arguments ts, (tt, clean-result r))))
+
 pub clean-atom : (a : Atom) → Clean (treeAtom a)
 unfolding treeAtom texts
 clean-atom (link l t u) = go l
   where
-    c : CleanIn (byte 32 (part (treeTerm t) (byte 32 (part (treeTerm u) end))))
+    c : CleanIn (byte 32 (bracket (treeTerm t) (byte 32 (bracket (treeTerm u) end))))
     c = (tt, (clean-term t, (tt, (clean-term u, tt))))
 
-    go : (l : Link) → Clean (node (texts (bytes (linkWord l)) (byte 32 (part (treeTerm t) (byte 32 (part (treeTerm u) end))))))
+    go : (l : Link) → Clean (node (texts (bytes (linkWord l)) (byte 32 (bracket (treeTerm t) (byte 32 (bracket (treeTerm u) end))))))
     go Eq = (tt, (tt, (tt, c)))
     go Mem = (tt, (tt, (tt, (tt, c))))
     go Sub = (tt, (tt, (tt, (tt, c))))
 clean-atom (obj t) = (tt, (tt, (tt, (tt, (tt, (clean-term t, tt))))))
-clean-atom (method a o m ts r) = elim a [ Sv ↦ (tt, (tt, (tt, c))) | Si ↦ (tt, (tt, (tt, c))) | Mv ↦ (tt, (tt, (tt, c))) | Mi ↦ (tt, (tt, (tt, c))) | St ↦ (tt, (tt, (tt, c))) | Mt ↦ (tt, (tt, (tt, c))) ]
+clean-atom (arrows o p) = elim (arrowOf p) as (λ a. Clean (node (texts (bytes (arrowWord a)) (byte 32 (bracket (treeTerm o) (byte 32 (treePart p))))))) [ Sv ↦ (tt, (tt, (tt, c))) | Si ↦ (tt, (tt, (tt, c))) | Mv ↦ (tt, (tt, (tt, c))) | Mi ↦ (tt, (tt, (tt, c))) | St ↦ (tt, (tt, (tt, c))) | Mt ↦ (tt, (tt, (tt, c))) ]
   where
-    c : CleanIn (byte 32 (part (treeTerm o) (byte 32 (part (treeTerm m) (byte 32 (part (treeArguments ts) (byte 32 (treeResult r))))))))
-    c = (tt, (clean-term o, (tt, (clean-term m, (tt, (clean-arguments ts, (tt, clean-result r)))))))
+    c : CleanIn (byte 32 (bracket (treeTerm o) (byte 32 (treePart p))))
+    c = (tt, (clean-term o, (tt, clean-part p)))
 
 pub clean-literal : (l : Literal) → Clean (treeLiteral l)
 unfolding treeLiteral texts
@@ -294,29 +305,32 @@ mutual
   pub within-in-more : (P : ℕ → Type 0) (ts : Trees) (d : ℕ) → WithinIn P ts d → WithinIn P ts (suc d)
   within-in-more P end d h = tt
   within-in-more P (byte b ts) d h = within-in-more P ts d h
-  within-in-more P (part t ts) d h = (within-more P t d (h .0), within-in-more P ts d (h .1))
+  within-in-more P (bracket t ts) d h = (within-more P t d (h .0), within-in-more P ts d (h .1))
 
 within-result : (w d : ℕ) (a : Arrow) (r : Result) → T (formedResult d a r) → termsWidth (resultTerms r) ≤ w → WithinIn (Below w) (treeResult r) (suc d)
 unfolding treeResult formedResult resultTerms termsWidth
 within-result w d a (value t) f h = (within-more _ (treeTerm t) d (within-term w t d f (omega arith)), tt)
 within-result w d a none f h = within-texts _ (bytes "none") end (suc d) tt
 
+within-up : (w d : ℕ) (t : Term) → T (formedTerm d t) → termWidth t ≤ w → Within (Below w) (treeTerm t) (suc d)
+within-up w d t f h = within-more _ (treeTerm t) d (within-term w t d f h)
+
+within-part : (w d : ℕ) (p : Part) → T (formedPart d p) → termsWidth (partTerms p) ≤ w → WithinIn (Below w) (treePart p) (suc d)
+unfolding treePart formedPart partTerms termsWidth
+within-part w d (part a m ts r) f h =
+    let ((g, k), i) = simp T-and at f in
+    let j = join-width ts (resultTerms r) in
+    (within-up w d m g (omega arith), (within-arguments w d ts k (omega arith), within-result w d a r i (omega arith)))
+
 pub within-atom : (w d : ℕ) (x : Atom) → T (formedAtom d x) → termsWidth (termsOf x) ≤ w → Within (Below w) (treeAtom x) (suc (suc d))
 unfolding treeAtom formedAtom termsOf termsWidth
 within-atom w d (link l t u) f h =
     let (g, k) = simp T-and at f in
-    within-texts _ (bytes (linkWord l)) _ (suc d) (up t g (omega arith), (up u k (omega arith), tt))
-  where
-    up : (t : Term) → T (formedTerm d t) → termWidth t ≤ w → Within (Below w) (treeTerm t) (suc d)
-    up t f h = within-more _ (treeTerm t) d (within-term w t d f h)
-within-atom w d (obj t) f h = within-texts _ (bytes "obj ") _ (suc d) (within-more _ (treeTerm t) d (within-term w t d f (omega arith)), tt)
-within-atom w d (method a o m ts r) f h =
-    let ((p, g), k) = simp T-and at f in
-    let j = join-width ts (resultTerms r) in
-    within-texts _ (bytes (arrowWord a)) _ (suc d) (up o (p .0) (omega arith), (up m (p .1) (omega arith), (within-arguments w d ts g (omega arith), within-result w d a r k (omega arith))))
-  where
-    up : (t : Term) → T (formedTerm d t) → termWidth t ≤ w → Within (Below w) (treeTerm t) (suc d)
-    up t f h = within-more _ (treeTerm t) d (within-term w t d f h)
+    within-texts _ (bytes (linkWord l)) _ (suc d) (within-up w d t g (omega arith), (within-up w d u k (omega arith), tt))
+within-atom w d (obj t) f h = within-texts _ (bytes "obj ") _ (suc d) (within-up w d t f (omega arith), tt)
+within-atom w d (arrows o p) f h =
+    let (g, k) = simp T-and at f in
+    within-texts _ (bytes (arrowWord (arrowOf p))) _ (suc d) (within-up w d o g (omega arith), within-part w d p k (omega arith))
 
 pub within-literal : (w d : ℕ) (g : Sign) (x : Atom) → T (formedAtom d x) → termsWidth (termsOf x) ≤ w → Within (Below w) (treeLiteral (lit g x)) (suc (suc (suc d)))
 unfolding treeLiteral

@@ -5,7 +5,7 @@ use mathlib.Core.List.{List, [], _∷_}
 use lib.Dec.{leb}
 use Rattle.logic.specs.declared.Arrow.{Arrow}
 use Rattle.logic.specs.Syntax.{Term, var, app, Terms, nil, cons, Result, value, none, mayBeNone}
-use Rattle.logic.specs.Syntax.{Atom, link, obj, method, Literal, lit, Clause}
+use Rattle.logic.specs.Syntax.{Part, part, Atom, link, obj, arrows, Literal, lit, Clause}
 use Rattle.logic.specs.Syntax.{Step, Line, sym, input, by}
 
 -- T4: "A number N is decimal, 0 to 65,535".
@@ -47,11 +47,14 @@ unfoldable pub formedResult : ℕ → Arrow → Result → Bool
 formedResult depth a (value t) = formedTerm depth t
 formedResult depth a none = mayBeNone a
 
--- T13, T16: every term of an atom, a literal, a clause is formed.
+-- T13, T16: every term of a part, an atom, a literal, a clause is formed.
+unfoldable pub formedPart : ℕ → Part → Bool
+formedPart depth (part a m ts r) = formedTerm depth m && formedTerms depth ts && formedResult depth a r
+
 unfoldable pub formedAtom : ℕ → Atom → Bool
 formedAtom depth (link l t u) = formedTerm depth t && formedTerm depth u
 formedAtom depth (obj t) = formedTerm depth t
-formedAtom depth (method a o m ts r) = formedTerm depth o && formedTerm depth m && formedTerms depth ts && formedResult depth a r
+formedAtom depth (arrows o p) = formedTerm depth o && formedPart depth p
 
 unfoldable pub formedLiteral : ℕ → Literal → Bool
 formedLiteral depth (lit s a) = formedAtom depth a

@@ -7,7 +7,7 @@ use Rattle.logic.specs.declared.Link.{Link}
 use Rattle.logic.specs.declared.Link.the-variants.{Eq, Mem, Sub}
 use Rattle.logic.specs.declared.Arrow.{Arrow}
 use Rattle.logic.specs.declared.Arrow.the-variants.{Sv, Si, Mv, Mi, St, Mt}
-use Rattle.logic.specs.Syntax.{Atom, link, obj, method}
+use Rattle.logic.specs.Syntax.{arrowOf, Atom, link, obj, arrows}
 use Rattle.text.specs.Words.{bytes}
 
 abbrev pub heads : List (List ℕ)
@@ -41,7 +41,7 @@ arrowKind Mt = 9
 unfoldable pub kindNumber : Atom → ℕ
 kindNumber (link l t u) = linkKind l
 kindNumber (obj t) = 3
-kindNumber (method a o m ts r) = arrowKind a
+kindNumber (arrows o p) = arrowKind (arrowOf p)
 
 abbrev pub head : ℕ → List ℕ
 head n = getD heads n []

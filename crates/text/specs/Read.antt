@@ -15,7 +15,7 @@ use Rattle.logic.specs.declared.Arrow.the-variants.{Sv, Si, Mv, Mi, St, Mt}
 use Rattle.logic.specs.declared.Rule.{Rule}
 use Rattle.logic.specs.declared.Rule.the-variants.{Refl, Res, Fac, Par, Acy, Tra, Inc, Inh, Inp, Out, Sca, Eli}
 use Rattle.logic.specs.Syntax.{Term, var, app, Terms, nil, cons, Result, value, none, mayBeNone}
-use Rattle.logic.specs.Syntax.{Atom, link, obj, method, Literal, lit, Clause}
+use Rattle.logic.specs.Syntax.{Part, part, Atom, link, obj, arrows, Literal, lit, Clause}
 use Rattle.logic.specs.Syntax.{Line, sym, input, by}
 use Rattle.text.specs.Words.{bytes, signWord, linkWord, arrowWord, ruleWord}
 use Rattle.text.specs.Form.{maxNumber, Reading, form, noForm}
@@ -79,8 +79,8 @@ signs = Positive ∷ Negative ∷ []
 abbrev pub links : List Link
 links = Eq ∷ Mem ∷ Sub ∷ []
 
-abbrev pub arrows : List Arrow
-arrows = Sv ∷ Si ∷ Mv ∷ Mi ∷ St ∷ Mt ∷ []
+abbrev pub arrowTable : List Arrow
+arrowTable = Sv ∷ Si ∷ Mv ∷ Mi ∷ St ∷ Mt ∷ []
 
 abbrev pub rules : List Rule
 rules = Refl ∷ Res ∷ Fac ∷ Par ∷ Acy ∷ Tra ∷ Inc ∷ Inh ∷ Inp ∷ Out ∷ Sca ∷ Eli ∷ []
@@ -186,23 +186,29 @@ readObject depth = do
   skip ")"
   return (obj t)
 
--- T13: "O M (T ...) R)" after the word
-unfoldable pub readMethod : ℕ → Arrow → Reader Atom
-readMethod depth a = do
-  skip " "
-  o ← readTerm depth
-  skip " "
+-- T13: "M (T ...) R)", a part from its method on
+unfoldable pub readPart : ℕ → Arrow → Reader Part
+readPart depth a = do
   m ← readTerm depth
   skip " "
   ts ← readArguments depth
   skip " "
   r ← readResult depth a
   skip ")"
-  return (method a o m ts r)
+  return (part a m ts r)
+
+-- T13: "O M (T ...) R)" after the word
+unfoldable pub readMethod : ℕ → Arrow → Reader Atom
+readMethod depth a = do
+  skip " "
+  o ← readTerm depth
+  skip " "
+  p ← readPart depth a
+  return (arrows o p)
 
 -- The word of an atom decides what follows it.
 unfoldable pub readKind : ℕ → Reader Atom
-readKind depth = oneOf (each linkWord (readLink depth) links ++ ("obj" ⇒ readObject depth) ∷ each arrowWord (readMethod depth) arrows)
+readKind depth = oneOf (each linkWord (readLink depth) links ++ ("obj" ⇒ readObject depth) ∷ each arrowWord (readMethod depth) arrowTable)
 
 -- T13: `(eq T U)`, `(mem T U)`, `(sub T U)`, `(obj T)`, `(ARROW O M (T ...) R)`.
 unfoldable pub readAtom : ℕ → Reader Atom

@@ -7,7 +7,7 @@ use mathlib.Core.Bool.{cond}
 use mathlib.Core.List.{List, [], _∷_, _++_}
 use lib.Dec.{ltb}
 use Rattle.logic.specs.Syntax.{Term, var, app, Terms, nil, cons, Result, value, none}
-use Rattle.logic.specs.Syntax.{Atom, link, obj, method, Literal, lit, Clause}
+use Rattle.logic.specs.Syntax.{Part, part, arrowOf, Atom, link, obj, arrows, Literal, lit, Clause}
 use Rattle.logic.specs.Syntax.{Step, Line, sym, input, by}
 use Rattle.text.specs.Words.{bytes, lineEnd, signWord, linkWord, arrowWord, ruleWord}
 
@@ -60,13 +60,15 @@ unfoldable pub putResult : Result → Writer
 putResult (value t) = putTerm t
 putResult none = word "none"
 
+-- T13: `M (T ...) R)`, a part from its method on.
+unfoldable pub putPart : Part → Writer
+putPart (part a m ts r) = putTerm m ∘ word " " ∘ putArguments ts ∘ word " " ∘ putResult r ∘ word ")"
+
 -- T13: `(eq T U)`, `(mem T U)`, `(sub T U)`, `(obj T)`, `(ARROW O M (T ...) R)`.
 unfoldable pub putAtom : Atom → Writer
 putAtom (link l t u) = word "(" ∘ word (linkWord l) ∘ word " " ∘ putTerm t ∘ word " " ∘ putTerm u ∘ word ")"
 putAtom (obj t) = word "(obj " ∘ putTerm t ∘ word ")"
-putAtom (method a o m ts r) =
-    word "(" ∘ word (arrowWord a) ∘ word " " ∘ putTerm o ∘ word " " ∘ putTerm m
-    ∘ word " " ∘ putArguments ts ∘ word " " ∘ putResult r ∘ word ")"
+putAtom (arrows o p) = word "(" ∘ word (arrowWord (arrowOf p)) ∘ word " " ∘ putTerm o ∘ word " " ∘ putPart p
 
 -- T16: `(+ ATOM)`, `(- ATOM)`.
 unfoldable pub putLiteral : Literal → Writer

@@ -1,7 +1,6 @@
 use denote.Ref.{now}
 use mathlib.Core.Bool.{true, false}
 use mathlib.Core.Path.{_≡_, refl, sym, _∙_}
-use Rattle.clauses.specs.Shapes.{nextAt}
 use Rattle.filling.specs.Agree.{agreeAt, callsAt}
 use Rattle.agreement.proofs.agree.calls.Statement.{statement}
 use Rattle.agreement.proofs.agree.calls.Tie as tie
@@ -9,28 +8,18 @@ use Rattle.agreement.proofs.agree.calls.Tie as tie
 returns : tie.Need-returns
 unfolding callsAt
 returns c =
-    let a = c .before .before .before .before .before .before .before .before .before .before .before .before .before .before .args in
-    let objects : agreeAt (a .depth) (now (a .a)) (a .x) (now (a .line)) (now (a .first)) (now (a .b)) (a .y) (now (a .second)) ≡ true = sym (c .before .before .before .before .before .before .before .before .agree .ensures .0) ∙ c .before .before .before .before .before .before .before .if1 .taken in
-    let methods : agreeAt (a .depth) (now (a .a)) (nextAt (now (a .a)) (a .x)) (now (a .line)) (now (a .first)) (now (a .b)) (nextAt (now (a .b)) (a .y)) (now (a .second)) ≡ true = sym (rw (c .before .before .before .before .before .next2 .ensures .0, c .before .before .before .before .before .before .next .ensures .0) at (c .before .before .before .before .agree2 .ensures .0)) ∙ c .before .before .before .if2 .taken in
-    (rw (objects, methods) (rw (c .before .next4 .ensures .0, c .before .before .next3 .ensures .0, c .before .before .before .before .before .next2 .ensures .0, c .before .before .before .before .before .before .next .ensures .0) at (c .agree3 .ensures .0)), (refl, refl, refl))
+    let a = c .before .before .before .before .before .before .before .before .before .before .args in
+    let same : agreeAt (a .depth) (now (a .a)) (a .x) (now (a .line)) (now (a .first)) (now (a .b)) (a .y) (now (a .second)) ≡ true = sym (c .before .before .before .before .agree .ensures .0) ∙ c .before .before .before .if1 .taken in
+    (rw same (rw (c .before .next2 .ensures .0, c .before .before .next .ensures .0) at (c .parts .ensures)), (refl, refl, refl))
 
 returns-2 : tie.Need-returns-2
 unfolding callsAt
 returns-2 c =
-    let a = c .before .before .before .before .before .before .before .before .before .before .before .args in
-    let objects : agreeAt (a .depth) (now (a .a)) (a .x) (now (a .line)) (now (a .first)) (now (a .b)) (a .y) (now (a .second)) ≡ true = sym (c .before .before .before .before .before .agree .ensures .0) ∙ c .before .before .before .before .if1 .taken in
-    let methods : agreeAt (a .depth) (now (a .a)) (nextAt (now (a .a)) (a .x)) (now (a .line)) (now (a .first)) (now (a .b)) (nextAt (now (a .b)) (a .y)) (now (a .second)) ≡ false = sym (rw (c .before .before .next2 .ensures .0, c .before .before .before .next .ensures .0) at (c .before .agree2 .ensures .0)) ∙ c .if2 .left in
-    (rw (objects, methods), (refl, refl, refl))
-
-returns-3 : tie.Need-returns-3
-unfolding callsAt
-returns-3 c =
     let a = c .before .before .before .before .before .before .before .args in
-    let objects : agreeAt (a .depth) (now (a .a)) (a .x) (now (a .line)) (now (a .first)) (now (a .b)) (a .y) (now (a .second)) ≡ false = sym (c .before .agree .ensures .0) ∙ c .if1 .left in
-    (rw objects, (refl, refl, refl))
+    let same : agreeAt (a .depth) (now (a .a)) (a .x) (now (a .line)) (now (a .first)) (now (a .b)) (a .y) (now (a .second)) ≡ false = sym (c .before .agree .ensures .0) ∙ c .if1 .left in
+    (rw same, (refl, refl, refl))
 
 pub calls-spec : {M : Type 1} → statement M
 calls-spec =
     tie.close (tie.spec
-    (λ c κs. tt) (λ c κs. tt) (λ c κs. tt) (λ c κs. tt) (λ c κs. tt) (λ c κs. tt) (λ c κs. tt) returns returns-2
-    returns-3)
+    (λ c κs. tt) (λ c κs. tt) (λ c κs. tt) (λ c κs. tt) returns returns-2)
