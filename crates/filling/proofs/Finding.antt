@@ -251,19 +251,15 @@ module _ (σ : Substitution) (u : Term) (P : Term → Type 0) (parts : (n : ℕ)
       let h = front-join (fills σ ts) (fills σ (resultTerms r)) (count ts) (count-fill σ ts) in
       rw (fills-join ts (resultTerms r), h .0, h .1, own-result r, tree-arguments σ ts, tree-result σ r)
 
-  filled-rest : (ts : Terms) (r : Result) → fillTrees τ (byte 32 (bracket (treeArguments ts) (byte 32 (treeResult r)))) ≡ byte 32 (closing ts r (fills σ (join ts (resultTerms r))))
-  unfolding fillTrees
-  filled-rest ts r = ap (byte 32) (filled-closing ts r)
-
   filled-part : (p : Part) → fillTrees τ (byte 32 (treePart p)) ≡ byte 32 (parted p (fills σ (partTerms p)))
   unfolding fillTrees closing treePart partTerms withPartTerms fills nth entryOr rest
   filled-part (part a m ts r) = rw (tree-term σ m, filled-closing ts r)
 
   alike-part : (p : Part) → All P (partTerms p) → (k : ℕ) → Alike σ P (λ us. count us ≡ count (partTerms p)) (parted p) (findTerms σ u (partTerms p) k) (findTrees τ (treeTerm u) (treePart p) k)
-  unfolding partTerms treePart count All findTrees mapFound
+  unfolding partTerms treePart count All findTrees fillTrees mapFound
   alike-part (part a m ts r) h k =
       let us = join ts (resultTerms r) in
-      alike-as (parted (part a m ts r)) (a-part a m ts r) (alike-then m (h .0) us (closing ts r) (byte 32 (bracket (treeArguments ts) (byte 32 (treeResult r)))) (closing ts r (fills σ us)) (filled-rest ts r) refl (λ n. alike-tree (byte 32) (λ r. r) (alike-closing ts r (h .1) n)) k)
+      alike-as (parted (part a m ts r)) (a-part a m ts r) (alike-then m (h .0) us (closing ts r) (byte 32 (bracket (treeArguments ts) (byte 32 (treeResult r)))) (closing ts r (fills σ us)) (ap (byte 32) (filled-closing ts r)) refl (λ n. alike-tree (byte 32) (λ r. r) (alike-closing ts r (h .1) n)) k)
 
   alike-atom : (x : Atom) → All P (termsOf x) → (k : ℕ) → Alike σ P Any treeAtom (findAtom σ u x k) (findTree τ (treeTerm u) (treeAtom x) k)
   unfolding findAtom termsOf treeAtom findTrees first treeTerms texts count All

@@ -8,7 +8,7 @@ use lib.Dec.{T, eqb, eqb→eq, eqb-refl}
 use Rattle.logic.specs.declared.Sign.the-variants.{Positive, Negative}
 use Rattle.logic.specs.declared.Link.the-variants.{Eq, Mem, Sub}
 use Rattle.logic.specs.declared.Arrow.the-variants.{Sv, Si, Mv, Mi, St, Mt}
-use Rattle.logic.specs.Syntax.{part, arrowOf, Atom, link, obj, arrows, lit}
+use Rattle.logic.specs.Syntax.{part, arrowOf, Atom, link, obj, arrows, method, lit}
 use Rattle.text.specs.Words.{bytes}
 use Rattle.text.specs.Write.{Writer, _∘_, word, putTerm, putPart, putAtom, putLiteral}
 use Rattle.text.specs.Read.{bad, got, strip}
@@ -45,16 +45,10 @@ afterHead (arrows o p) = putTerm o ∘ word " " ∘ putPart p
 
 pub atom-head : (x : Atom) (rest : List ℕ) → putAtom x rest ≡ head (kindNumber x) ++ afterHead x rest
 unfolding putAtom afterHead kindNumber
-atom-head (link Eq t u) rest = refl
-atom-head (link Mem t u) rest = refl
-atom-head (link Sub t u) rest = refl
+atom-head (link l t u) rest = (elim l as (λ l. putAtom (link l t u) rest ≡ head (linkKind l) ++ afterHead (link l t u) rest) [ Eq ↦ refl | Mem ↦ refl | Sub ↦ refl ])
 atom-head (obj t) rest = refl
-atom-head (arrows o (part Sv m ts r)) rest = refl
-atom-head (arrows o (part Si m ts r)) rest = refl
-atom-head (arrows o (part Mv m ts r)) rest = refl
-atom-head (arrows o (part Mi m ts r)) rest = refl
-atom-head (arrows o (part St m ts r)) rest = refl
-atom-head (arrows o (part Mt m ts r)) rest = refl
+atom-head (arrows o (part a m ts r)) rest =
+    (elim a as (λ a. putAtom (method a o m ts r) rest ≡ head (arrowKind a) ++ afterHead (method a o m ts r) rest) [ Sv ↦ refl | Si ↦ refl | Mv ↦ refl | Mi ↦ refl | St ↦ refl | Mt ↦ refl ])
 
 -- Heads of different kinds differ: one test over all pairs.
 abbrev ten : List ℕ

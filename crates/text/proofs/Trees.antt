@@ -7,7 +7,6 @@ use native.Mathlib.Omega.{arith}
 use lib.Dec.{T, eqb, ltb, not-T, eqb→eq}
 use Rattle.logic.specs.declared.Sign.{Sign}
 use Rattle.logic.specs.declared.Sign.the-variants.{Positive, Negative}
-use Rattle.logic.specs.declared.Link.{Link}
 use Rattle.logic.specs.declared.Link.the-variants.{Eq, Mem, Sub}
 use Rattle.logic.specs.declared.Arrow.{Arrow}
 use Rattle.logic.specs.declared.Arrow.the-variants.{Sv, Si, Mv, Mi, St, Mt}
@@ -235,15 +234,10 @@ clean-part (part a m ts r) = (clean-term m, (tt, (clean-arguments ts, (tt, clean
 
 pub clean-atom : (a : Atom) → Clean (treeAtom a)
 unfolding treeAtom texts
-clean-atom (link l t u) = go l
+clean-atom (link l t u) = elim l as (λ l. Clean (node (texts (bytes (linkWord l)) (byte 32 (bracket (treeTerm t) (byte 32 (bracket (treeTerm u) end))))))) [ Eq ↦ (tt, (tt, (tt, c))) | Mem ↦ (tt, (tt, (tt, (tt, c)))) | Sub ↦ (tt, (tt, (tt, (tt, c)))) ]
   where
     c : CleanIn (byte 32 (bracket (treeTerm t) (byte 32 (bracket (treeTerm u) end))))
     c = (tt, (clean-term t, (tt, (clean-term u, tt))))
-
-    go : (l : Link) → Clean (node (texts (bytes (linkWord l)) (byte 32 (bracket (treeTerm t) (byte 32 (bracket (treeTerm u) end))))))
-    go Eq = (tt, (tt, (tt, c)))
-    go Mem = (tt, (tt, (tt, (tt, c))))
-    go Sub = (tt, (tt, (tt, (tt, c))))
 clean-atom (obj t) = (tt, (tt, (tt, (tt, (tt, (clean-term t, tt))))))
 clean-atom (arrows o p) = elim (arrowOf p) as (λ a. Clean (node (texts (bytes (arrowWord a)) (byte 32 (bracket (treeTerm o) (byte 32 (treePart p))))))) [ Sv ↦ (tt, (tt, (tt, c))) | Si ↦ (tt, (tt, (tt, c))) | Mv ↦ (tt, (tt, (tt, c))) | Mi ↦ (tt, (tt, (tt, c))) | St ↦ (tt, (tt, (tt, c))) | Mt ↦ (tt, (tt, (tt, c))) ]
   where
