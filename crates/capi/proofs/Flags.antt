@@ -1,11 +1,10 @@
 -- Which numbers `numbersBelow` lists, and the flags one after another.
 use Prim.Native.Nat.{ℕ, zero, suc, _+_, _≤_, _<_}
 use mathlib.Core.Path.{_≡_, refl, sym, ap, _∙_}
-use mathlib.Core.Bool.{Bool, true, false, cond}
+use mathlib.Core.Bool.{Bool, false, cond}
 use mathlib.Core.List.{List, [], _∷_, _++_, append-nil, append-assoc}
 use native.Mathlib.Numerals.{add-one}
 use native.Mathlib.Omega.{arith}
-use lib.Dec.{T}
 use lib.ListN.{length, drop, set, getD, length-append, length-set}
 use lib.Seq.{drop-cons, drop-length, set-at}
 use Rattle.logic.specs.Descent.{among, numbersBelow}

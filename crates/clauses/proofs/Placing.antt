@@ -1,27 +1,25 @@
 -- Where the terms of a written literal stand.
-use Prim.Native.Nat.{ℕ, zero, suc, _+_, _-_, _≤_, _<_}
-use mathlib.Core.Bool.{Bool, true, false, cond}
-use mathlib.Core.List.{List, [], _∷_, _++_}
+use Prim.Native.Nat.{ℕ, _+_, _-_, _≤_, _<_}
+use mathlib.Core.List.{List, [], _∷_}
 use mathlib.Core.Logic.{_⊎_, inl, inr}
-use mathlib.Core.Path.{_≡_, refl, sym, ap, subst, _∙_}
+use mathlib.Core.Path.{_≡_, refl, ap, _∙_}
 use native.Mathlib.Decide.{ℕ-discrete}
 use native.Mathlib.Omega.{arith}
 use borrow.Author.Tests.{le-leb, lt-leb}
-use lib.Dec.{T, leb}
 use lib.ListN.{length, drop, drop-of-length-le}
 use Rattle.logic.specs.declared.Sign.the-variants.{Positive, Negative}
 use Rattle.logic.specs.declared.Arrow.{Arrow}
-use Rattle.logic.specs.Syntax.{Term, var, app, Terms, Result, value, none, part, Atom, Literal, lit}
+use Rattle.logic.specs.Syntax.{Term, var, app, Terms, Result, value, none, part, Atom, lit}
 use Rattle.text.specs.Words.{bytes}
 use Rattle.text.specs.Write.{word, putTerm, putArguments, putResult, putPart, putAtom, putLiteral}
-use Rattle.text.specs.Read.{Parsed, bad, got, Reader, strip}
+use Rattle.text.specs.Read.{bad, got, Reader, strip}
 use Rattle.text.specs.Places.{endOf}
-use Rattle.text.specs.Access.{skipItem, toArgument}
+use Rattle.text.specs.Access.{skipItem}
 use Rattle.text.specs.Heads.{kindNumber, head}
 use Rattle.text.proofs.Positions.{Tail, strip-tail, skip-tail, landed}
 use Rattle.text.proofs.Nesting.{skip-term, skip-arguments}
 use Rattle.text.proofs.Heads.{afterHead, head-of, head-other, plus-of, plus-other}
-use Rattle.clauses.specs.Shapes.{stripAt, skipAt, nextAt, positiveAt, firstAt, orPlace, ifPlace, resultAt, valueAt}
+use Rattle.clauses.specs.Shapes.{stripAt, skipAt, nextAt, positiveAt, orPlace, ifPlace, resultAt, valueAt}
 
 -- Within p, and from there on these bytes.
 pub record Stands (p : List ℕ) (at : ℕ) (bs : List ℕ) : Type 0 where

@@ -1,8 +1,8 @@
 -- The walk back gives the inputs from which a clause descends.
 use Prim.Native.Nat.{ℕ, zero, suc, _+_, _-_, _≤_, _<_}
 use mathlib.Core.Bool.{Bool, true, false, cond}
-use mathlib.Core.List.{List, [], _∷_, _++_}
-use mathlib.Core.Logic.{_⊎_, inl, inr, ⊎-elim, _↔_}
+use mathlib.Core.List.{List, [], _∷_}
+use mathlib.Core.Logic.{_⊎_, inl, inr, ⊎-elim}
 use mathlib.Core.Path.{_≡_, refl, sym, ap, subst, _∙_}
 use native.Mathlib.Omega.{arith}
 use native.Mathlib.Decide.{ℕ-discrete}
@@ -17,7 +17,7 @@ use Rattle.logic.specs.Reach.{ParentsFall, reached, restsOn}
 use Rattle.logic.proofs.Descending.{member→among, among→member, member-left, member-right, member-either, reached-later, reached-parent, reached-cases, numbers-below, below-numbers, numbers-rising, rising-same}
 use Rattle.text.specs.Figures.{office}
 use Rattle.descent.specs.Walk.{heldParent, parentsBy, parentsOf, marked, passed, walked, inputsFrom, HeldFrom}
-use Rattle.descent.proofs.Marks.{marked-length, passed-length, none-marked}
+use Rattle.descent.proofs.Marks.{marked-length, none-marked}
 
 -- What is marked once clause p is.
 module _ (marks : List Bool) (long : length marks ≡ office .lines) where

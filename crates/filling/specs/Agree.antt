@@ -3,7 +3,7 @@
 use Prim.Native.Nat.{ℕ}
 use mathlib.Core.Bool.{Bool, cond, _&&_}
 use mathlib.Core.List.{List}
-use lib.ListN.{length, drop}
+use lib.ListN.{drop}
 use Rattle.filling.specs.Filled.{plain, ground, filledBy, matches, sameItem, endsOf, itemDepth}
 use Rattle.clauses.specs.Shapes.{nextAt, within}
 

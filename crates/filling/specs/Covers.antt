@@ -1,11 +1,11 @@
 -- Nothing here is to be believed: the laws in proofs/ say what it gives on written clauses. Terms nest at most `depth` deep.
 -- Covering in bytes, and the atoms of literals by their signs.
 use Prim.Native.Nat.{ℕ}
-use mathlib.Core.Bool.{Bool, cond, not, _&&_, _||_}
+use mathlib.Core.Bool.{Bool, _&&_, _||_}
 use mathlib.Core.List.{List}
 use lib.ListN.{take, drop}
 use Rattle.text.specs.Words.{bytes}
-use Rattle.clauses.specs.Shapes.{stripAt, positiveAt, negativeAt, resultAt, orPlace, firstAt}
+use Rattle.clauses.specs.Shapes.{stripAt, resultAt}
 use Rattle.filling.specs.Agree.{agreeAt, callsAt}
 use Rattle.clauses.specs.Shapes.{within}
 

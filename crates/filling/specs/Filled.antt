@@ -1,11 +1,11 @@
 -- Nothing here is to be believed: the laws in proofs/ say what it gives on written clauses.
 -- R2 in bytes: "variable N of A becomes term N of the first list, variable N of B becomes term N of the second list".
 use Prim.Native.Nat.{ℕ, zero, suc, _+_, _-_}
-use mathlib.Core.Bool.{Bool, true, false, cond}
+use mathlib.Core.Bool.{Bool, cond}
 use mathlib.Core.List.{List, [], _∷_, _++_}
 use lib.Dec.{eqb, leb}
 use lib.ListN.{length, take, drop}
-use Rattle.text.specs.Read.{Parsed, bad, got, Reader, andThen, _>>=_, _>>_, return, Branch, _⇒_, orElse, oneOf, strip, skip, readNumber}
+use Rattle.text.specs.Read.{Parsed, bad, got, Reader, andThen, _>>=_, _>>_, return, _⇒_, orElse, oneOf, strip, skip, readNumber}
 use Rattle.text.specs.Access.{skipItem, entryOf}
 use Rattle.filling.specs.declared.compare.Ends.{Ends}
 

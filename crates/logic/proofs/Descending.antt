@@ -1,18 +1,16 @@
 -- Descent: what is reached is what a clause descends from, and it is closed under used parents.
 use Prim.Native.Nat.{ℕ, zero, suc, _<_, _+_}
 use mathlib.Core.Bool.{Bool, true, false, cond, _||_}
-use mathlib.Core.List.{List, [], _∷_, _++_, map, append-nil, append-assoc}
+use mathlib.Core.List.{List, [], _∷_, _++_}
 use mathlib.Core.Logic.{_⊎_, inl, inr, ⊎-elim, _↔_}
 use mathlib.Core.Path.{_≡_, refl, sym, ap, subst, _∙_}
 use native.Mathlib.Omega.{arith}
 use native.Mathlib.Decide.{ℕ-discrete}
 use borrow.Author.Tests.{eq-eqb}
-use lib.Dec.{T, eqb, eqb→eq, ltb→lt}
+use lib.Dec.{T, eqb, eqb→eq}
 use lib.ListN.{length, drop, length-append}
-use lib.Seq.{drop-drop}
 use Rattle.logic.specs.Syntax.{Clause, Step}
 use Rattle.logic.specs.Rules.{uses}
-use Rattle.logic.specs.StepChecks.{Given}
 use Rattle.logic.specs.Descent.{Member, among, usedParents, Descends, Rising, RestsOn, numbersBelow}
 use Rattle.logic.specs.Reach.{ParentsFall, reached, restsOn}
 use Rattle.logic.proofs.Entailment.{AllGiven, ClosedUnderParents, parents}

@@ -3,7 +3,7 @@ use Prim.Native.Nat.{ℕ}
 use mathlib.Core.List.{[], _∷_, _++_}
 use mathlib.Core.Path.{_≡_}
 use lib.Dec.{T}
-use Rattle.logic.specs.Syntax.{Positive, Negative, Eq, Mem, Sub, Arrow}
+use Rattle.logic.specs.Syntax.{Eq, Mem, Sub, Arrow}
 use Rattle.logic.specs.Syntax.{Rule, Refl, Res, Fac, Par, Acy, Tra, Inc, Inh, Inp, Out, Sca, Eli}
 use Rattle.logic.specs.Syntax.{Term, Terms, cons, value, Atom, link, obj, method, Literal, Clause}
 use Rattle.logic.specs.Fill.{fillClause}

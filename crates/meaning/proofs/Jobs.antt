@@ -86,10 +86,6 @@ module _ (F : Figures) (base : List ℕ) (small : tooLarge F base ≡ false) (a 
   unfolding stateOf
   read-joined = ap (readOn fresh 1) readings-append ∙ read-append fresh 1 (readings F base) (readings F job) read-accepted
 
-  pub state-joined : stateOf F (base ++ job) ≡ stateAfter (stateOf F base) (readings F job)
-  unfolding stateOf
-  state-joined = ap (stateAfter fresh) readings-append ∙ state-append fresh (readings F base) (readings F job)
-
 -- The text that is answered.
 module _ (F : Figures) (base job : List ℕ) where
   pub jointly-alone : isAccepted (verdict F base) ≡ false → jointly F base job ≡ base

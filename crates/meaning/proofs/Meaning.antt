@@ -2,7 +2,7 @@
 -- number of clauses and the first empty one.
 use Prim.Native.Nat.{ℕ, zero, suc, _+_, _<_, _≤_}
 use mathlib.Core.Bool.{Bool, true, false, not, cond}
-use mathlib.Core.List.{List, [], _∷_, _++_, cons≢nil}
+use mathlib.Core.List.{List, [], _∷_, cons≢nil}
 use mathlib.Core.Logic.{_⊎_, inl, inr, _↔_}
 use mathlib.Core.Path.{_≡_, refl, sym, ap, ap₂, subst, _∙_}
 use native.Mathlib.Omega.{arith}
@@ -10,7 +10,6 @@ use borrow.Author.Tests.{ne-eqb, ltb-true, ltb-false}
 use native.Mathlib.Decide.{decLt}
 use lib.Dec.{T, T-not, eqb, ltb}
 use lib.ListN.{length}
-use Rattle.logic.specs.declared.Judged.the-variants.{Passed}
 use Rattle.logic.specs.Syntax.{Clause, Line, sym as symLine, input, by}
 use Rattle.logic.specs.StepChecks.{AllPass, FailsFirst, stepChecks, judgedNumber}
 use Rattle.logic.specs.Judge.{judge}

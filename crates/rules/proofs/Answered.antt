@@ -1,12 +1,12 @@
 -- Checks 9 and 10 in bytes are those of the rule table.
-use Prim.Native.Nat.{ℕ, zero, suc, _+_, _≤_, _<_}
-use mathlib.Core.Bool.{Bool, true, false, cond, _&&_}
-use mathlib.Core.List.{List, [], _∷_}
+use Prim.Native.Nat.{ℕ, _+_, _≤_}
+use mathlib.Core.Bool.{Bool, true, false, cond}
+use mathlib.Core.List.{List}
 use mathlib.Core.Logic.{_↔_, ite}
-use mathlib.Core.Path.{_≡_, refl, sym, ap, subst, _∙_}
+use mathlib.Core.Path.{_≡_, refl}
 use native.Mathlib.Omega.{arith}
 use borrow.Author.Tests.{le-leb, lt-leb}
-use lib.Dec.{T, leb}
+use lib.Dec.{T}
 use lib.ListN.{length}
 use Rattle.logic.specs.declared.Judged.{Judged}
 use Rattle.logic.specs.declared.Judged.the-variants.{Passed, Misshapen, Disagrees}
@@ -28,11 +28,6 @@ within-here p x h = le-leb x (length p) h
 pub within-past : (p : List ℕ) (x : ℕ) → x ≡ length p + 1 → within p x ≡ false
 unfolding within
 within-past p x e = lt-leb x (length p) (omega arith)
-
--- A shape that is another.
-pub other-shape : (b : Bool) → Misshapen ≡ answer false b
-unfolding answer
-other-shape b = refl
 
 -- A shape that fits, and an agreement that is tested exactly.
 pub right-shape : (b : Bool) (g : Agreement) (c : Clause) → (T b ↔ Holds g) → answer true b ≡ judgedOf (concludes g c)

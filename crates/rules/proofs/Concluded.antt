@@ -1,29 +1,29 @@
 -- Check 11: the claim that is expected in the line is the rule's, and then the answer is that of the definitions.
-use Prim.Native.Nat.{ℕ, zero, suc, _+_, _-_, _≤_, _<_}
-use mathlib.Core.Bool.{Bool, true, false, cond}
+use Prim.Native.Nat.{ℕ, suc, _+_, _-_, _<_}
+use mathlib.Core.Bool.{Bool, cond}
 use mathlib.Core.List.{List, [], _∷_, _++_, append-nil}
-use mathlib.Core.Logic.{ite, _↔_}
-use mathlib.Core.Path.{_≡_, refl, sym, ap, subst, _∙_}
+use mathlib.Core.Logic.{ite}
+use mathlib.Core.Path.{_≡_, refl, sym, ap, _∙_}
 use native.Mathlib.Omega.{arith}
 use borrow.Author.Tests.{ne-eqb, eq-eqb}
-use lib.Dec.{T, eqb, eqb→eq}
-use lib.ListN.{length, drop, length-drop}
+use lib.Dec.{eqb}
+use lib.ListN.{length, drop}
 use Rattle.logic.specs.declared.Judged.{Judged}
-use Rattle.logic.specs.declared.Judged.the-variants.{Passed, NoParent, WrongNumber, Misshapen, Disagrees, WrongClaim}
+use Rattle.logic.specs.declared.Judged.the-variants.{Passed, Disagrees, WrongClaim}
 use Rattle.logic.specs.declared.Rule.{Rule}
 use Rattle.logic.specs.Syntax.{Clause}
 use Rattle.logic.specs.Equality.{clause?}
 use Rattle.logic.specs.Rules.{uses, Agreement, Holds}
-use Rattle.logic.specs.Judge.{Conclusion, misshapen, concludes, holds?, judgeConclusion}
+use Rattle.logic.specs.Judge.{concludes, holds?, judgeConclusion}
 use Rattle.logic.proofs.Over.{Over}
 use Rattle.text.specs.Words.{bytes}
 use Rattle.text.specs.Write.{word, putLiteral, putLiterals, putClause}
 use Rattle.text.specs.Form.{formedNumber}
-use Rattle.text.specs.Read.{Parsed, bad, got, strip}
+use Rattle.text.specs.Read.{Parsed, strip}
 use Rattle.text.specs.Places.{endOf}
 use Rattle.reader.specs.LineAt.{fromClause}
 use Rattle.text.proofs.Deep.{formedSymbol, clause-bytes}
-use Rattle.text.proofs.Gives.{Gives, nothing, gives, given, strip-gives}
+use Rattle.text.proofs.Gives.{Gives, nothing, gives, strip-gives}
 use Rattle.text.proofs.Heads.{strip-same}
 use Rattle.clauses.specs.Shapes.{stripAt}
 use Rattle.filling.specs.Claims.{othersAt}

@@ -1,12 +1,11 @@
 -- The step check in bytes is `judge` of the definitions.
-use Prim.Native.Nat.{ℕ, zero, suc, _+_, _-_, _≤_, _<_}
+use Prim.Native.Nat.{ℕ, zero, suc, _-_, _≤_, _<_}
 use mathlib.Core.Bool.{Bool, true, false, cond, _&&_}
-use mathlib.Core.List.{List, [], _∷_, _++_}
-use mathlib.Core.Logic.{_⊎_, inl, inr}
-use mathlib.Core.Path.{_≡_, refl, sym, ap, subst, _∙_}
+use mathlib.Core.List.{List, [], _∷_}
+use mathlib.Core.Path.{_≡_, refl, ap, subst, _∙_}
 use native.Mathlib.Omega.{arith}
 use borrow.Author.Tests.{ne-eqb}
-use lib.Dec.{T, eqb, eqb→eq, ltb, ltb→lt, leb, le→leb, leb→le}
+use lib.Dec.{T, eqb, eqb→eq, ltb→lt, leb, le→leb}
 use lib.ListN.{length, drop, getD}
 use Rattle.logic.specs.declared.Link.the-variants.{Sub}
 use Rattle.logic.specs.declared.Rule.{Rule}
@@ -19,13 +18,13 @@ use Rattle.logic.specs.Each.{width, eachTerm}
 use Rattle.logic.specs.Fill.{Substitution, entries}
 use Rattle.logic.specs.Rules.{uses, always, plus, Parent, filled}
 use Rattle.logic.specs.StepChecks.{parentClause, parentA, parentB, below, parentsBelow, unusedZero, firstLength, listsFit, numbersRight}
-use Rattle.logic.specs.Judge.{withNew, conclude, conclusion, judgeConclusion, judge}
+use Rattle.logic.specs.Judge.{conclude, conclusion, judgeConclusion, judge}
 use Rattle.logic.proofs.Both.{left, right}
 use Rattle.logic.proofs.Over.{Over, fill-over}
 use Rattle.reader.specs.declared.forms.StepAt.{StepAt}
 use Rattle.text.specs.Words.{bytes}
 use Rattle.text.specs.Write.{word, putLet, putTerms}
-use Rattle.text.specs.Form.{formedNumber, numbered, numbereds, formedTerms, formedStep, formedLine, formedClause, depthOfs, form, maxNumber}
+use Rattle.text.specs.Form.{formedNumber, numbereds, formedTerms, formedStep, formedLine, formedClause, depthOfs, form, maxNumber}
 use Rattle.text.specs.Read.{readLine}
 use Rattle.reader.specs.LineAt.{fromFirst, fromSecond, fromClause, placeOf, stepOf}
 use Rattle.text.proofs.Deep.{formedSymbol, each-numbered, entries-over, formed-over}
@@ -33,7 +32,6 @@ use Rattle.text.proofs.Heads.{strip-same}
 use Rattle.reader.proofs.LineParts.{first-place, second-place, claim-place}
 use Rattle.text.proofs.Sound.{line-sound}
 use Rattle.rule_numbers.specs.Uses.{parentNumbers, unusedNumbers}
-use Rattle.clauses.specs.Shapes.{stripAt}
 use Rattle.rules.specs.declared.steps.Size.{Size}
 use Rattle.rules.specs.Judging.{listsAt, concludeAt, settledAs, fillingPlaces, stepAt, HoldsClause, Judges}
 use Rattle.clauses.proofs.Placing as placing

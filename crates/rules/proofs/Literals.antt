@@ -1,13 +1,12 @@
 -- The literals of a parent: where they stand, and what the rule table takes of them.
-use Prim.Native.Nat.{ℕ, zero, suc, _+_, _-_, _≤_, _<_, max}
+use Prim.Native.Nat.{ℕ, zero, suc, _+_, _-_, _≤_}
 use mathlib.Core.Bool.{Bool, true, false, cond, true≢false}
-use mathlib.Core.List.{List, [], _∷_, map}
+use mathlib.Core.List.{List, [], _∷_}
 use mathlib.Core.Path.{_≡_, refl, sym, ap, subst, _∙_}
 use native.Mathlib.Omega.{arith}
-use native.Mathlib.Numerals.{add-one}
 use borrow.Author.Tests.{ne-eqb, eq-eqb}
 use lib.Dec.{T, eqb, eqb→eq}
-use lib.ListN.{length, drop, length-drop, drop-of-length-le}
+use lib.ListN.{length, drop, length-drop}
 use Rattle.logic.specs.Syntax.{Literal, lit, Clause}
 use Rattle.logic.specs.Each.{width}
 use Rattle.logic.specs.Fill.{Substitution, fillLiteral, fillClause}
@@ -16,15 +15,14 @@ use Rattle.logic.proofs.Both.{left, right}
 use Rattle.text.specs.Words.{bytes}
 use Rattle.text.specs.Write.{word, putLiteral, putLiterals, putClause}
 use Rattle.text.specs.Form.{formedLiteral, formedClause}
-use Rattle.text.specs.Read.{Parsed, bad, got, andThen, strip}
-use Rattle.text.specs.Access.{toItem, passItem, skipItem}
+use Rattle.text.specs.Read.{Parsed, bad, got}
+use Rattle.text.specs.Access.{toItem, skipItem}
 use Rattle.text.proofs.Heads.{strip-same}
 use Rattle.text.proofs.Nesting.{putEach, fromItem, clause-item, skip-literal, howMany, how-many}
 use Rattle.text.proofs.Positions.{item-tail}
-use Rattle.text.specs.Places.{endOf}
 use Rattle.clauses.specs.Shapes.{stripAt}
-use Rattle.filling.specs.Claims.{othersFrom, othersAt}
-use Rattle.clauses.proofs.Placing.{Stands, walk-stands, walk-past, none-past, strip-stands}
+use Rattle.filling.specs.Claims.{othersAt}
+use Rattle.clauses.proofs.Placing.{Stands, walk-stands, walk-past, strip-stands}
 use Rattle.filling.proofs.Claimed.{withoutFrom, others-claimed}
 use Rattle.rules.proofs.Meets.{Images, LiteralAt}
 use Rattle.clauses.specs.Shapes.{placeAt}

@@ -2,8 +2,8 @@
 use Prim.Native.Nat.{ℕ, _+_, _-_}
 use mathlib.Core.Bool.{true}
 use mathlib.Core.List.{List, [], _∷_}
-use mathlib.Core.Logic.{_⊎_, inl, inr}
-use mathlib.Core.Path.{_≡_, refl, sym, ap, subst, _∙_}
+use mathlib.Core.Logic.{inl, inr}
+use mathlib.Core.Path.{refl, sym, subst}
 use native.Mathlib.Omega.{arith}
 use lib.Dec.{eqb}
 use lib.ListN.{length, drop}
@@ -17,7 +17,6 @@ use Rattle.logic.specs.Rules.{equal, one}
 use Rattle.logic.specs.Judge.{concludes, onFound, conclude-par}
 use Rattle.text.specs.Words.{bytes}
 use Rattle.text.specs.Form.{formedLiteral}
-use Rattle.text.specs.Read.{strip}
 use Rattle.text.specs.Places.{endOf}
 use Rattle.text.specs.Access.{beginsTerm, seek, toOccurrence}
 use Rattle.text.proofs.Gives.{Gives, nothing, gives, weaken}

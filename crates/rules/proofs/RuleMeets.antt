@@ -1,34 +1,32 @@
 -- Checks 9 to 11 in bytes, rule by rule, are those of the definitions.
-use Prim.Native.Nat.{ℕ, zero, suc, _+_, _≤_, _<_}
+use Prim.Native.Nat.{ℕ, _+_}
 use mathlib.Core.Bool.{Bool, true, false, cond}
 use mathlib.Core.List.{List, [], _∷_, _++_, append-nil}
 use mathlib.Core.Logic.{_⊎_, inl, inr}
-use mathlib.Core.Path.{_≡_, refl, sym, ap, subst, _∙_}
-use native.Mathlib.Omega.{arith}
+use mathlib.Core.Path.{_≡_, refl, sym, ap, _∙_}
 use lib.Dec.{T, eqb}
 use lib.ListN.{length, drop}
 use Rattle.logic.specs.declared.Sign.the-variants.{Positive, Negative}
 use Rattle.logic.specs.declared.Link.the-variants.{Eq, Sub}
 use Rattle.logic.specs.declared.Rule.{Rule}
-use Rattle.logic.specs.declared.Rule.the-variants.{Refl, Res, Fac, Par, Acy, Tra, Inc, Inh, Inp, Out, Sca, Eli}
-use Rattle.logic.specs.declared.Judged.the-variants.{Passed, Misshapen}
+use Rattle.logic.specs.declared.Rule.the-variants.{Res, Fac, Par, Acy, Tra, Inc, Inh, Inp, Out, Sca, Eli}
+use Rattle.logic.specs.declared.Judged.the-variants.{Misshapen}
 use Rattle.logic.specs.Syntax.{Atom, link, obj, arrows, Literal, lit, Clause}
 use Rattle.logic.specs.Each.{width, eachTerm}
 use Rattle.logic.specs.Fill.{Substitution, fillAtom, fillLiteral, fillClause}
-use Rattle.logic.specs.Rules.{uses, Agreement, always, covering, plus, Parent, filled}
-use Rattle.logic.specs.Judge.{Conclusion, misshapen, concludes, withNew, onAt, onPlus, onMinus, onObj, before, tableRow, conclude-two, conclude-par, conclude-fac, conclude-eli, conclude, judgeConclusion}
+use Rattle.logic.specs.Rules.{uses, Agreement, always, covering, Parent, filled}
+use Rattle.logic.specs.Judge.{Conclusion, misshapen, concludes, onPlus, onMinus, onObj, before, tableRow, conclude-two, conclude-par, conclude-fac, conclude-eli, conclude, judgeConclusion}
 use Rattle.logic.proofs.Over.{Over}
 use Rattle.text.specs.Write.{putLiterals}
 use Rattle.text.specs.Form.{formedNumber}
 use Rattle.text.proofs.Deep.{formedSymbol}
 use Rattle.clauses.specs.Shapes.{positiveAt}
 use Rattle.filling.specs.Claims.{othersFrom, othersAt}
-use Rattle.rules.specs.Judging.{thenClaim, concludeAt}
-use Rattle.clauses.proofs.Placing.{Stands, positive-stands, negative-past}
-use Rattle.filling.proofs.Claimed.{withoutFrom}
+use Rattle.rules.specs.Judging.{thenClaim}
+use Rattle.clauses.proofs.Placing.{positive-stands, negative-past}
 use Rattle.rules.proofs.Answered.{judgedOf, within-here, within-past}
 use Rattle.rules.proofs.Meets.{Images, LiteralAt, Meets}
-use Rattle.rules.proofs.RowsMeet.{refl-meets, acy-meets, sca-meets, acy-past, sca-past}
+use Rattle.rules.proofs.RowsMeet.{acy-meets, sca-meets, acy-past, sca-past}
 use Rattle.rules.proofs.CoverRows.{res-meets, eli-meets, fac-judged, res-past, eli-past, fac-past}
 use Rattle.logic.proofs.Rewriting.{aim, rewrite, tra-rewrites, inc-rewrites, inh-rewrites, inp-rewrites, out-rewrites}
 use Rattle.rule_table.specs.declared.Kind.the-variants.{Rewriting}
@@ -39,7 +37,7 @@ use Rattle.rules.proofs.Rewrites.{sub-meets, rewrites-past}
 use Rattle.rules.proofs.ParMeets.{par-meets}
 use Rattle.rules.proofs.Literals.{PartOf, without, at-here, at-none, at-filled, at-none-filled, place-here, place-past, part-others, same-place}
 use Rattle.rules.proofs.Concluded.{ClaimAt, Expects, concluded}
-use Rattle.rules.proofs.StepMeets.{Taken, taken, absent, take-at, TwoParents, given-over, stops, two-meets}
+use Rattle.rules.proofs.StepMeets.{Taken, taken, absent, take-at, TwoParents, given-over, stops}
 use Rattle.clauses.specs.Shapes.{within}
 use Rattle.rule_table.specs.Rows.{rowOf, rowAt, foundBy, factored}
 use Rattle.rules.specs.Claim.{newAt, newBy, droppedAt, claimAt}

@@ -1,34 +1,30 @@
 -- Checks 9 to 11 in bytes are those of the definitions, for parents that begin with their clauses and lists that give the images.
-use Prim.Native.Nat.{ℕ, zero, suc, _+_, _≤_, _<_}
-use mathlib.Core.Bool.{Bool, true, false, cond}
-use mathlib.Core.List.{List, [], _∷_, _++_, append-nil}
-use mathlib.Core.Logic.{_⊎_, inl, inr, ite}
-use mathlib.Core.Path.{_≡_, refl, sym, ap, subst, _∙_}
-use native.Mathlib.Omega.{arith}
+use Prim.Native.Nat.{ℕ, _+_}
+use mathlib.Core.Bool.{Bool, true}
+use mathlib.Core.List.{List, [], _∷_, _++_}
+use mathlib.Core.Logic.{_⊎_, inl, inr}
+use mathlib.Core.Path.{_≡_, refl, sym, ap, _∙_}
 use lib.Dec.{T, eqb}
 use lib.ListN.{length, drop}
-use Rattle.logic.specs.declared.Sign.the-variants.{Positive, Negative}
 use Rattle.logic.specs.declared.Rule.{Rule}
-use Rattle.logic.specs.declared.Rule.the-variants.{Refl, Res, Fac, Par, Acy, Tra, Inc, Inh, Inp, Out, Sca, Eli}
 use Rattle.logic.specs.declared.Judged.{Judged}
-use Rattle.logic.specs.declared.Judged.the-variants.{Passed, Misshapen, Disagrees, WrongClaim}
-use Rattle.logic.specs.Syntax.{Term, Atom, link, obj, Literal, lit, Clause}
+use Rattle.logic.specs.declared.Judged.the-variants.{Misshapen}
+use Rattle.logic.specs.Syntax.{Literal, Clause}
 use Rattle.logic.specs.Each.{width, eachTerm}
-use Rattle.logic.specs.Fill.{Substitution, fillAtom, fillLiteral, fillClause}
+use Rattle.logic.specs.Fill.{fillClause}
 use Rattle.logic.specs.Rules.{uses, Agreement, Parent, filled}
-use Rattle.logic.specs.Judge.{Conclusion, misshapen, concludes, onAt, onPlus, onMinus, onObj, before, tableRow, conclude-two, conclude-par, conclude-fac, conclude-eli, conclude, judgeConclusion}
+use Rattle.logic.specs.Judge.{Conclusion, misshapen, concludes, before, conclude, judgeConclusion}
 use Rattle.logic.proofs.Over.{Over, infers-over}
 use Rattle.logic.proofs.Table.{concludes→infers}
 use Rattle.text.specs.Form.{formedNumber}
 use Rattle.text.proofs.Deep.{formedSymbol}
-use Rattle.filling.specs.Claims.{othersAt}
 use Rattle.rules.specs.Judging.{thenClaim, concludeAt}
 use Rattle.rules.proofs.Answered.{judgedOf}
 use Rattle.rules.proofs.Meets.{Images, LiteralAt, Meets}
-use Rattle.rules.proofs.Literals.{PartOf, without, at-here, at-none, at-filled, at-none-filled, place-here, place-past, part-others}
-use Rattle.rules.proofs.Concluded.{ClaimAt, Expects, concluded}
+use Rattle.rules.proofs.Literals.{PartOf, without, place-here, place-past, part-others}
+use Rattle.rules.proofs.Concluded.{ClaimAt, concluded}
 use Rattle.rule_table.specs.Rows.{rowAt}
-use Rattle.rules.specs.Claim.{newAt, droppedAt, claimAt}
+use Rattle.rules.specs.Claim.{droppedAt, claimAt}
 use Rattle.clauses.specs.Shapes.{placeAt}
 
 -- The literal at a position, or none.

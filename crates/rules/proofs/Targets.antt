@@ -13,7 +13,7 @@ use Rattle.logic.specs.declared.Link.the-variants.{Eq, Mem, Sub}
 use Rattle.logic.specs.declared.Arrow.{Arrow}
 use Rattle.logic.specs.declared.Arrow.the-variants.{Sv, Si, Mv, Mi, St, Mt}
 use Rattle.logic.specs.declared.Rule.{Rule}
-use Rattle.logic.specs.declared.Rule.the-variants.{Refl, Res, Fac, Par, Acy, Tra, Inc, Inh, Inp, Out, Sca, Eli}
+use Rattle.logic.specs.declared.Rule.the-variants.{Tra, Inc, Inh, Inp, Out}
 use Rattle.logic.specs.Syntax.{Term, Terms, nil, cons, Result, value, none, Part, part, arrowOf, Atom, link, obj, arrows, method, Literal, lit}
 use Rattle.logic.specs.Equality.{link?, linkNumber, nthLink, link-back}
 use Rattle.logic.specs.Terms.{join, resultTerms, partTerms, termsOf}

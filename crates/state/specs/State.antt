@@ -1,11 +1,11 @@
 -- The reading state (T19), and checks 3 to 6 (V13 to V16): each a test that says that the check is passed.
 use Prim.Native.Nat.{ℕ}
-use mathlib.Core.Bool.{Bool, true, false, cond, _&&_, _||_}
+use mathlib.Core.Bool.{Bool, true, false, _&&_, _||_}
 use mathlib.Core.List.{List, [], _∷_, _++_, map}
 use lib.Dec.{T, leb, ltb, eqb}
 use lib.ListN.{length}
-use Rattle.logic.specs.Syntax.{Term, Terms, Part, part, Atom, link, obj, arrows, Literal, lit, Clause, Step, Line, sym, input, by}
-use Rattle.logic.specs.Terms.{count, termsOf}
+use Rattle.logic.specs.Syntax.{Terms, Part, part, Atom, link, obj, arrows, lit, Clause, Step, Line, sym, input, by}
+use Rattle.logic.specs.Terms.{count}
 use Rattle.logic.specs.Each.{eachTerms, eachClause, declares, any}
 use Rattle.text.specs.Form.{Reading, form, noForm}
 use Rattle.text.specs.Figures.{maxSymbols, maxParts, maxArguments, maxLiterals, maxVariables, maxEntries}

@@ -1,7 +1,7 @@
 -- One line as the code judges it, by what is held of the clauses before it: their places, numbers of literals and widths, each a list by
 -- clause number. Nothing here has to be believed: Line says what it gives, in the definitions.
 use Prim.Native.Nat.{ℕ, _-_}
-use mathlib.Core.Bool.{Bool, cond}
+use mathlib.Core.Bool.{cond}
 use mathlib.Core.List.{List}
 use lib.Dec.{eqb, ltb}
 use lib.ListN.{getD}

@@ -58,9 +58,6 @@ unfolding linesBytes split
 bytes-split [] = refl
 bytes-split (b ∷ bs) = onTest (λ x. linesBytes x ≡ b ∷ bs) (eqb b lineEnd) (λ t. rw (bytes-split bs, eqb→eq b lineEnd t)) (λ _. rw (bytes-push b (split bs), bytes-split bs))
 
-pub split-unique : {bs cs : List ℕ} → split bs ≡ split cs → bs ≡ cs
-split-unique {bs} {cs} e = sym (bytes-split bs) ∙ ap linesBytes e ∙ bytes-split cs
-
 pub lines-complete : (d : ℕ) (ls : List Line) → T (formedLines d ls) → map (readRaw d) (split (writeLines ls)) ≡ map form ls
 unfolding formedLines readRaw writeLines split
 lines-complete d [] f = refl

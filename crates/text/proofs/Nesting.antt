@@ -9,16 +9,16 @@ use lib.ListN.{length, take, drop, getD, length-append, length-drop}
 use lib.Seq.{drop-drop, take-at}
 use native.Mathlib.Numerals.{add-one}
 use borrow.Author.Tests.{ne-eqb, lt-ltb, le-leb}
-use Rattle.logic.specs.Syntax.{Term, var as variable, app, Terms, nil, cons, Atom, Literal, Clause}
+use Rattle.logic.specs.Syntax.{Term, var as variable, app, Terms, nil, cons, Literal, Clause}
 use Rattle.logic.specs.Terms.{count, entryOr}
-use Rattle.text.specs.Write.{Writer, word, putTerm, putTerms, putArguments, putAtom, putLiteral, putLiterals, putClause, putLet}
+use Rattle.text.specs.Write.{Writer, word, putTerm, putTerms, putArguments, putLiteral, putLiterals}
 use Rattle.text.specs.Read.{Parsed, bad, got, strip}
 use Rattle.text.specs.Places.{endOf}
 use Rattle.text.specs.Access.{closing, skipItem, passItem, toItem, opening, toArgument, places, entryOf}
 use Rattle.text.proofs.Tests.{T-and}
 use Rattle.text.proofs.Positions.{pass-tail, landed}
 use Rattle.text.proofs.Plain.{Plain, number-plain, term-plain, in-front}
-use Rattle.text.proofs.Trees.{Tree, var, node, Trees, end, byte, bracket, putTree, putInside, inner, Inner, Clean, CleanIn, numberBytes, number-inner, put-term, put-arguments, put-atom, put-literal, put-clause, put-let, clean-term, clean-arguments, clean-atom, clean-literal, clean-clause, clean-let}
+use Rattle.text.proofs.Trees.{Tree, var, node, Trees, end, byte, bracket, putTree, putInside, inner, Inner, Clean, CleanIn, numberBytes, number-inner, put-term, put-arguments, put-literal, clean-term, clean-arguments, clean-literal}
 
 -- A byte that is no bracket.
 pub inner-tests : (b : ℕ) → T (inner b) → (eqb b 40 ≡ false) × (eqb b 41 ≡ false)
@@ -64,17 +64,8 @@ skip-term t rest = rw (put-term t rest) (skip-tree _ (clean-term t) rest)
 pub skip-arguments : (ts : Terms) (rest : List ℕ) → skipItem (putArguments ts rest) ≡ got tt rest
 skip-arguments ts rest = rw (put-arguments ts rest) (skip-tree _ (clean-arguments ts) rest)
 
-pub skip-atom : (a : Atom) (rest : List ℕ) → skipItem (putAtom a rest) ≡ got tt rest
-skip-atom a rest = rw (put-atom a rest) (skip-tree _ (clean-atom a) rest)
-
 pub skip-literal : (l : Literal) (rest : List ℕ) → skipItem (putLiteral l rest) ≡ got tt rest
 skip-literal l rest = rw (put-literal l rest) (skip-tree _ (clean-literal l) rest)
-
-pub skip-clause : (c : Clause) (rest : List ℕ) → skipItem (putClause c rest) ≡ got tt rest
-skip-clause c rest = rw (put-clause c rest) (skip-tree _ (clean-clause c) rest)
-
-pub skip-let : (ts : Terms) (rest : List ℕ) → skipItem (putLet ts rest) ≡ got tt rest
-skip-let ts rest = rw (put-let ts rest) (skip-tree _ (clean-let ts) rest)
 
 -- The bytes between two places, the first of them at a space.
 between : (s w more : List ℕ) (p q : ℕ) → p ≤ length s → q ≤ length s → drop p s ≡ 32 ∷ (w ++ more) → drop q s ≡ more → (p < q) × (take (q - (p + 1)) (drop (p + 1) s) ≡ w)

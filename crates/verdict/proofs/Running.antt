@@ -6,20 +6,17 @@ use mathlib.Core.List.{List, [], _∷_, _++_, map, map-append, append-assoc, app
 use mathlib.Core.Path.{_≡_, refl, sym, ap, _∙_}
 use native.Mathlib.Omega.{arith}
 use native.Mathlib.Numerals.{add-one}
-use native.Mathlib.Decide.{ℕ-discrete, decLt}
-use borrow.Author.Tests.{eq-eqb, ne-eqb, lt-ltb, ltb-true, ltb-false}
+use native.Mathlib.Decide.{decLt}
+use borrow.Author.Tests.{eq-eqb, ne-eqb, ltb-false}
 use lib.Dec.{T, ltb}
 use lib.ListN.{length, getD, set, take, drop, length-append, length-map, take-append-drop}
 use lib.Seq.{getD-set-same, getD-set-other, take-at}
-use Rattle.logic.specs.declared.Judged.{Judged}
 use Rattle.logic.specs.Syntax.{Step, Line, by, input}
 use Rattle.logic.specs.Syntax as syntax
-use Rattle.logic.specs.StepChecks.{judgedNumber}
 use Rattle.logic.proofs.Descending.{given-falls}
 use Rattle.descent.specs.declared.Parents.{Parents}
-use Rattle.descent.specs.Walk.{parentsBy, parentsOf, HeldFrom}
+use Rattle.descent.specs.Walk.{parentsOf, HeldFrom}
 use Rattle.outcome.specs.Ends.{firstZero, endsAs, marksAs}
-use Rattle.reader.specs.declared.forms.LineAt.{LineAt}
 use Rattle.state.specs.declared.HeldState as code
 use Rattle.state.specs.declared.Seen.{Seen}
 use Rattle.state.specs.declared.Added.{Added}
@@ -39,7 +36,7 @@ use Rattle.meaning.specs.declared.Verdict.{Verdict}
 use Rattle.meaning.specs.declared.Verdict.the-variants.{Refused}
 use Rattle.meaning.specs.Checks.{readings, stateOf}
 use Rattle.meaning.specs.Means.{named}
-use Rattle.meaning.specs.Answer.{stepFailure, failure, finish, readOn, restsIn}
+use Rattle.meaning.specs.Answer.{failure, finish, readOn, restsIn}
 use Rattle.step.specs.Step.{parentsAt}
 use Rattle.step.specs.Line.{FirstFailing}
 use Rattle.step.proofs.Judging.{read-passes}

@@ -10,7 +10,7 @@ use native.Mathlib.Numerals.{add-one}
 use native.Mathlib.Decide.{ℕ-discrete, decLt}
 use borrow.Author.Tests.{eq-eqb, ne-eqb, lt-ltb, le-ltb}
 use lib.Dec.{T, ltb}
-use lib.ListN.{length, set, take, drop, length-append, length-map, length-drop}
+use lib.ListN.{length, take, drop, length-append, length-map, length-drop}
 use lib.Seq.{drop-drop, drop-append-le}
 use Rattle.descent.specs.declared.Parents.{Parents}
 use Rattle.outcome.specs.Ends.{firstZero, endsAs, marksAs}
@@ -20,7 +20,7 @@ use Rattle.state.specs.declared.Added.{Added}
 use Rattle.text.specs.Read.{readLine, readRaw}
 use Rattle.text.specs.Split.{Raw, split, tooLarge}
 use Rattle.text.specs.declared.Figures.{Figures}
-use Rattle.text.specs.Figures.{office, maxSymbols, UpToOffice}
+use Rattle.text.specs.Figures.{office, UpToOffice}
 use Rattle.text.specs.Size.{firstLine, partAt}
 use Rattle.text.proofs.Places.{past}
 use Rattle.text.proofs.Sizes.{part-on}
@@ -36,7 +36,6 @@ use Rattle.meaning.specs.Answer.{failure, firstEmpty, acceptedAs, finish, readO
 use Rattle.verdict.specs.Running.{Answers, textRead, linesBefore, linesLength, linesPassed, stateRead, StopsAt}
 use Rattle.step.specs.Step.{parentsAt, leftOf, seamFailure}
 use Rattle.verdict.proofs.Kept.{Kept, Keeps, keptWith}
-use Rattle.verdict.proofs.Ends.{symbols-within}
 use Rattle.verdict.proofs.Running.{Reached, text-within, reached-first, line-refused, line-within, line-before, clause-room, reached-after, reached-end, finished, no-length, lines-left, before-next, before-end}
 use Rattle.meaning.proofs.Jobs.{read-verdict, lines-append, read-joined, jointly-alone, jointly-joined, jointly-nothing}
 
@@ -309,14 +308,6 @@ module _ (F : Figures) (base job : List ℕ) (u : UpToOffice F) (small : tooLarg
                 within = omega (arith, q);
                 reached = job-reached;
               }
-
-    -- No more lines are read than the text has.
-    pub lines-within : lines ≤ F .lines
-    lines-within = go (P .stage)
-      where
-        go : Alone base at (P .text) (P .rest) ⊎ (Joined F base job at (P .text) (P .rest) × (length base < at)) → lines ≤ F .lines
-        go (inl A) = omega (arith, lines-left (P .reached), ap (λ t. length (split t)) (A .is), text-within F base small .1)
-        go (inr (J, l)) = omega (arith, lines-left (P .reached), ap (λ t. length (split t)) (J .is), text-within F (base ++ job) (J .small) .1)
 
     pub seam-refused : {n : ℕ} → n ≡ seamFailure F (take (held .symbols) (held .counts)) (length base) at lines job → (n ≡ 0 → ⊥) → {ns : List ℕ} → ns ≡ [] →
         Stopped F base job (Refused n 0) ns held at

@@ -23,6 +23,4 @@ returns c =
     )
 
 pub fcheck-check-job-spec : {M : Type 1} → statement M
-fcheck-check-job-spec =
-    tie.close (tie.spec
-    (λ c κs. tt) (λ c κs. tt) (λ c κs. tt) (λ c κs. tt) (λ c κs. tt) same-length returns)
+fcheck-check-job-spec = tie.close (tie.spec (λ c κs. tt) (λ c κs. tt) (λ c κs. tt) (λ c κs. tt) (λ c κs. tt) same-length returns)

@@ -20,6 +20,4 @@ unfolding firstNumber numbers
 returns-3 c = ap firstNumber (sym (c .before .v3 .given .1))
 
 pub first-number-spec : {M : Type 1} → statement M
-first-number-spec =
-    tie.close (tie.spec
-    (λ c. search needs) (λ c. search needs) (λ c. search needs) returns returns-2 returns-3)
+first-number-spec = tie.close (tie.spec (λ c. search needs) (λ c. search needs) (λ c. search needs) returns returns-2 returns-3)

@@ -17,6 +17,4 @@ returns-3 : tie.Need-returns-3
 returns-3 c = sym (flag-marked _ _ false (c .before .before .if1 .left) (c .if2 .left))
 
 pub flag-at-spec : {M : Type 1} → statement M
-flag-at-spec =
-    tie.close (tie.spec
-    returns (λ c. search needs) returns-2 returns-3)
+flag-at-spec = tie.close (tie.spec returns (λ c. search needs) returns-2 returns-3)

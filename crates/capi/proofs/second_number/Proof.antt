@@ -19,6 +19,4 @@ unfolding secondNumber numbers
 returns-3 c = ap secondNumber (sym (c .before .v2 .given .1))
 
 pub second-number-spec : {M : Type 1} → statement M
-second-number-spec =
-    tie.close (tie.spec
-    (λ c. c .match .keys1) (λ c. c .match .keys2) (λ c. c .match .keys3) returns returns-2 returns-3)
+second-number-spec = tie.close (tie.spec (λ c. c .match .keys1) (λ c. c .match .keys2) (λ c. c .match .keys3) returns returns-2 returns-3)

@@ -18,6 +18,4 @@ unfolding wordNumber
 returns-3 c = ap wordNumber (sym (c .enum-told3 .given .1))
 
 pub word-spec : {M : Type 1} → statement M
-word-spec =
-    tie.close (tie.spec
-    (λ c. c .match .keys1) (λ c. c .match .keys2) (λ c. c .match .keys3) returns returns-2 returns-3)
+word-spec = tie.close (tie.spec (λ c. c .match .keys1) (λ c. c .match .keys2) (λ c. c .match .keys3) returns returns-2 returns-3)

@@ -15,5 +15,4 @@ returns c =
     rw (← lines .ensures .0) (lines .ensures .1)
 
 pub print-spec : {M : Type 1} → statement M
-print-spec =
-    tie.close (tie.spec (λ c κs. tt) slice-aggregate-write-all (λ c κs. tt) returns)
+print-spec = tie.close (tie.spec (λ c κs. tt) slice-aggregate-write-all (λ c κs. tt) returns)

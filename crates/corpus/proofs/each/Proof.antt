@@ -11,6 +11,4 @@ abbrev μ-loop : tie.MeasureT-loop
 μ-loop fd pairs turns₀ turns = turns
 
 pub each-spec : {M : Type 1} → statement M
-each-spec =
-    tie.close (tie.spec
-    Inv-loop μ-loop (λ c. tt) (λ c κs. tt) (λ c. omega arith) (λ c. omega arith) (λ c. tt) (λ c. tt) (λ c. tt))
+each-spec = tie.close (tie.spec Inv-loop μ-loop (λ c. tt) (λ c κs. tt) (λ c. omega arith) (λ c. omega arith) (λ c. tt) (λ c. tt) (λ c. tt))

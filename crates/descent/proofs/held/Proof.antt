@@ -26,6 +26,4 @@ returns-3 c =
     rw (e, lt-ltb (c .before .before .args .n) (office .lines) (omega arith))
 
 pub held-spec : {M : Type 1} → statement M
-held-spec =
-    tie.close (tie.spec
-    (λ c. search needs) returns (λ c. search needs) returns-2 (λ c. search needs) returns-3)
+held-spec = tie.close (tie.spec (λ c. search needs) returns (λ c. search needs) returns-2 (λ c. search needs) returns-3)

@@ -1,13 +1,13 @@
 -- `descent::rests` meets its contract. The invariant: what is marked, walked on from here, is the whole walk. The measure is the clauses left.
-use Prim.Native.Nat.{ℕ, suc, _+_, _-_, _≤_}
+use Prim.Native.Nat.{_-_, _≤_}
 use mathlib.Core.Bool.{true, false}
-use mathlib.Core.Path.{_≡_, refl, sym, ap, _∙_}
+use mathlib.Core.Path.{_≡_, sym, ap, _∙_}
 use native.Mathlib.Omega.{arith}
 use borrow.Author.Needs.{needs}
 use denote.Ref.{now}
-use lib.ListN.{length, getD, replicate, length-set, length-replicate}
+use lib.ListN.{length, replicate, length-set, length-replicate}
 use Rattle.text.specs.Figures.{office}
-use Rattle.descent.specs.Walk.{marked, passed, walked, inputsFrom}
+use Rattle.descent.specs.Walk.{walked, inputsFrom}
 use Rattle.descent.proofs.Marks.{past-walked, started, passed-length, walked-on, ended}
 use Rattle.descent.proofs.rests.Statement.{statement}
 use Rattle.descent.proofs.rests.Tie as tie

@@ -1,5 +1,5 @@
 -- `descent::used_parents` meets its contract.
-use mathlib.Core.Path.{_≡_, refl}
+use mathlib.Core.Path.{refl}
 use Rattle.rule_numbers.specs.Uses.{usesAt}
 use Rattle.descent.specs.Walk.{parentsBy}
 use Rattle.descent.proofs.used_parents.Statement.{statement}

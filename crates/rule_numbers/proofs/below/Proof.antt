@@ -11,6 +11,4 @@ unfolding below
 returns-2 c = rw (c .if1 .left)
 
 pub below-spec : {M : Type 1} → statement M
-below-spec =
-    tie.close (tie.spec
-    returns returns-2)
+below-spec = tie.close (tie.spec returns returns-2)

@@ -1,5 +1,4 @@
 -- `rule_numbers::used` meets its contract, by the table's rule.
-use native.Mathlib.Omega.{arith}
 use borrow.Author.Needs.{needs}
 use mathlib.Core.Bool.{false}
 use mathlib.Core.Path.{ap}

@@ -11,6 +11,4 @@ unfolding zeroIfUnused
 returns-2 c = rw (c .if1 .left)
 
 pub zero-if-unused-spec : {M : Type 1} → statement M
-zero-if-unused-spec =
-    tie.close (tie.spec
-    returns returns-2)
+zero-if-unused-spec = tie.close (tie.spec returns returns-2)

@@ -20,6 +20,4 @@ returns : tie.Need-returns
 returns c = (let x = now ((c .before .before .before .args) .text) in let n = (c .before .before .if1) .from in let h : length (drop n x) ≤ length x - n = rw length-drop (omega arith) in take-all (length x - n) (drop n x) h ∙ ⊎-elim (λ w. ap (λ n. drop n x) (w .1)) (λ w. past x n (omega arith) ∙ sym (past x ((c .before .before .before .args) .start) (omega arith))) ((c .before .before .if1) .came), refl)
 
 pub clause-part-spec : {M : Type 1} → statement M
-clause-part-spec =
-    tie.close (tie.spec
-    sub-result part-result-start (λ c. search needs) returns)
+clause-part-spec = tie.close (tie.spec sub-result part-result-start (λ c. search needs) returns)

@@ -17,6 +17,4 @@ returns-3 : tie.Need-returns-3
 returns-3 c = omega (arith, c .before .before .line-ends .ensures, count-unended (now (c .before .before .before .before .before .args .text)) (omega arith) (c .if2 .left))
 
 pub lines-spec : {M : Type 1} → statement M
-lines-spec =
-    tie.close (tie.spec
-    returns (λ c κs. tt) (λ c. omega arith) (λ c. omega arith) add-result returns-2 returns-3)
+lines-spec = tie.close (tie.spec returns (λ c κs. tt) (λ c. omega arith) (λ c. omega arith) add-result returns-2 returns-3)

@@ -13,6 +13,4 @@ unfolding tooLarge
 returns-2 c = (rw (le-ltb _ _ (c .before .before .if1 .left), c .before .lines .ensures), refl)
 
 pub too-large-spec : {M : Type 1} → statement M
-too-large-spec =
-    tie.close (tie.spec
-    returns (λ c κs. tt) returns-2)
+too-large-spec = tie.close (tie.spec returns (λ c κs. tt) returns-2)

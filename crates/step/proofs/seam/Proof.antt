@@ -1,9 +1,7 @@
 -- `step::seam` meets its contract.
-use denote.Ref.{now}
-use mathlib.Core.Path.{_≡_, refl, sym, _∙_}
+use mathlib.Core.Path.{refl, sym, _∙_}
 use borrow.Author.Tests.{not-true, not-false, eq-eqb, ne-eqb}
 use Rattle.step.specs.Step.{seamFailure, leftOf}
-use Rattle.text.specs.Split.{tooLarge}
 use Rattle.step.proofs.seam.Statement.{statement}
 use Rattle.step.proofs.seam.Tie as tie
 
@@ -47,6 +45,4 @@ returns-4 c =
     )
 
 pub seam-spec : {M : Type 1} → statement M
-seam-spec =
-    tie.close (tie.spec
-    returns (λ c κs. tt) returns-2 (λ c κs. tt) (λ c κs. tt) (λ c κs. tt) returns-3 returns-4)
+seam-spec = tie.close (tie.spec returns (λ c κs. tt) returns-2 (λ c κs. tt) (λ c κs. tt) (λ c κs. tt) returns-3 returns-4)

@@ -1,6 +1,5 @@
 -- `step::size_at` meets its contract.
 use native.Mathlib.Omega.{arith}
-use Rattle.step.specs.Step.{sizeAt}
 use Rattle.step.proofs.Judging.{slot-below}
 use Rattle.step.proofs.size_at.Statement.{statement}
 use Rattle.step.proofs.size_at.Tie as tie

@@ -17,6 +17,4 @@ returns c =
     (rw read at (c .before .before .put .ensures .0), numeral-short 19 n (omega (arith, start .fits .n .fits)))
 
 pub put-number-spec : {M : Type 1} → statement M
-put-number-spec =
-    tie.close (tie.spec
-    (λ c κs. tt) (λ c. search needs) (λ c. search needs) (λ c κs. tt) (λ c. search needs) returns)
+put-number-spec = tie.close (tie.spec (λ c κs. tt) (λ c. search needs) (λ c. search needs) (λ c κs. tt) (λ c. search needs) returns)

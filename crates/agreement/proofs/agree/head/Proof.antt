@@ -20,6 +20,4 @@ unfolding headAt
 returns-2 c = ap (take 4) (c .before .before .clause-part .ensures .0)
 
 pub head-spec : {M : Type 1} → statement M
-head-spec =
-    tie.close (tie.spec
-    (λ c κs. tt) returns (λ c. search needs) (λ c. search needs) (λ c. search needs) returns-2)
+head-spec = tie.close (tie.spec (λ c κs. tt) returns (λ c. search needs) (λ c. search needs) (λ c. search needs) returns-2)

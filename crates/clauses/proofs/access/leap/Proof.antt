@@ -1,10 +1,10 @@
-use Prim.Native.Nat.{_≤_, _+_, _-_}
+use Prim.Native.Nat.{_≤_, _-_}
 use denote.Ref.{now}
 use lib.ListN.{length, drop}
-use mathlib.Core.Path.{_≡_, refl, sym, _∙_, ap}
+use mathlib.Core.Path.{_≡_, refl, _∙_}
 use native.Mathlib.Omega.{arith}
 use Rattle.text.specs.Access.{closing}
-use Rattle.clauses.specs.Nearer.{tallied, Nearer}
+use Rattle.clauses.specs.Nearer.{tallied}
 use Rattle.clauses.proofs.Leaping.{tallied-most, passed}
 use Rattle.clauses.proofs.access.leap.Statement.{statement}
 use Rattle.clauses.proofs.access.leap.Tie as tie

@@ -1,10 +1,10 @@
-use Prim.Native.Nat.{_≤_, _+_, _-_}
+use Prim.Native.Nat.{_≤_, _-_}
 use denote.Ref.{now}
 use mathlib.Core.Logic.{⊎-elim}
-use mathlib.Core.Path.{_≡_, refl, sym, _∙_, ap}
+use mathlib.Core.Path.{_≡_, refl, _∙_, ap}
 use native.Mathlib.Omega.{arith}
 use Rattle.clauses.specs.Nearer.{tallied}
-use Rattle.clauses.proofs.Leaping.{tallied-most, tallied-more, tallied-other}
+use Rattle.clauses.proofs.Leaping.{tallied-more, tallied-other}
 use Rattle.clauses.proofs.access.tally.Statement.{statement}
 use Rattle.clauses.proofs.access.tally.Tie as tie
 

@@ -11,6 +11,4 @@ returns-2 : tie.Need-returns-2
 returns-2 c = let a = c .before .before .before .before .before .before .args in term-applied (now (a .s)) (a .at) (c .before .before .before .word .ensures .0) (c .before .before .if1 .left) (c .word2 .ensures .0)
 
 pub term-spec : {M : Type 1} → statement M
-term-spec =
-    tie.close (tie.spec
-    (λ c. search needs) (λ c κs. search needs) returns (λ c. search needs) (λ c κs. search needs) returns-2)
+term-spec = tie.close (tie.spec (λ c. search needs) (λ c κs. search needs) returns (λ c. search needs) (λ c κs. search needs) returns-2)

@@ -12,6 +12,4 @@ returns-2 : tie.Need-returns-2
 returns-2 c = let a = c .before .before .before .before .before .before .args in rw (c .item .ensures, c .before .skip .ensures .0, c .before .before .before .word .ensures .0) (sym (argument-later (now (a .s)) (a .at) (a .n) (c .before .before .if1 .left)))
 
 pub argument-spec : {M : Type 1} → statement M
-argument-spec =
-    tie.close (tie.spec
-    (λ c. refl) (λ c κs. tt) (λ c κs. tt) returns (λ c κs. tt) (λ c. omega arith) (λ c κs. tt) returns-2)
+argument-spec = tie.close (tie.spec (λ c. refl) (λ c κs. tt) (λ c κs. tt) returns (λ c κs. tt) (λ c. omega arith) (λ c κs. tt) returns-2)

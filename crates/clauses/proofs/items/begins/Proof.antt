@@ -17,6 +17,4 @@ returns-3 : tie.Need-returns-3
 returns-3 c = let a = c .before .before .before .args in end-bad _ (opening-other (now (a .s)) (a .at) (omega arith) (omega arith))
 
 pub begins-spec : {M : Type 1} → statement M
-begins-spec =
-    tie.close (tie.spec
-    (λ c. search needs) returns (λ c. search needs) (λ c. search needs) returns-2 returns-3)
+begins-spec = tie.close (tie.spec (λ c. search needs) returns (λ c. search needs) (λ c. search needs) returns-2 returns-3)

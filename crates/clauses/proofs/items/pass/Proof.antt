@@ -8,6 +8,4 @@ returns : tie.Need-returns
 returns c = let a = c .before .before .before .before .args in rw (c .skip .ensures .0, c .before .word .ensures .0) (sym (pass-end (now (a .s)) (a .at)))
 
 pub pass-spec : {M : Type 1} → statement M
-pass-spec =
-    tie.close (tie.spec
-    (λ c. refl) (λ c κs. tt) (λ c κs. tt) returns)
+pass-spec = tie.close (tie.spec (λ c. refl) (λ c κs. tt) (λ c κs. tt) returns)

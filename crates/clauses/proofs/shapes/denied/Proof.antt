@@ -8,6 +8,4 @@ unfolding stripAt
 returns c = (rw (c .word .ensures .0), refl)
 
 pub denied-spec : {M : Type 1} → statement M
-denied-spec =
-    tie.close (tie.spec
-    (λ c. refl) (λ c κs. tt) returns)
+denied-spec = tie.close (tie.spec (λ c. refl) (λ c κs. tt) returns)

@@ -7,6 +7,4 @@ unfolding firstAt stripAt
 returns c = rw (c .word .ensures .0, c .before .positive .ensures .0)
 
 pub first-spec : {M : Type 1} → statement M
-first-spec =
-    tie.close (tie.spec
-    (λ c κs. tt) (λ c κs. tt) returns)
+first-spec = tie.close (tie.spec (λ c κs. tt) (λ c κs. tt) returns)

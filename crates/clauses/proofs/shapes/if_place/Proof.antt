@@ -13,6 +13,4 @@ unfolding ifPlace
 returns-2 c = rw (lt-leb _ _ (c .if1 .left))
 
 pub if-place-spec : {M : Type 1} → statement M
-if-place-spec =
-    tie.close (tie.spec
-    (λ c. search needs) returns returns-2)
+if-place-spec = tie.close (tie.spec (λ c. search needs) returns returns-2)

@@ -9,6 +9,4 @@ unfolding placeAt stripAt
 returns c = (rw (c .item .ensures, c .before .word .ensures .0), refl)
 
 pub literal-spec : {M : Type 1} → statement M
-literal-spec =
-    tie.close (tie.spec
-    (λ c. refl) (λ c κs. tt) (λ c κs. tt) returns)
+literal-spec = tie.close (tie.spec (λ c. refl) (λ c κs. tt) (λ c κs. tt) returns)

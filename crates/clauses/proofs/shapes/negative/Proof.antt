@@ -8,6 +8,4 @@ unfolding negativeAt stripAt
 returns c = (rw (c .word .ensures .0), refl)
 
 pub negative-spec : {M : Type 1} → statement M
-negative-spec =
-    tie.close (tie.spec
-    (λ c. refl) (λ c κs. tt) returns)
+negative-spec = tie.close (tie.spec (λ c. refl) (λ c κs. tt) returns)

@@ -8,6 +8,4 @@ unfolding nextAt skipAt stripAt
 returns c = (rw (c .word .ensures .0, c .before .before .skip .ensures .0), refl)
 
 pub next-spec : {M : Type 1} → statement M
-next-spec =
-    tie.close (tie.spec
-    (λ c κs. tt) (λ c. refl) (λ c κs. tt) returns)
+next-spec = tie.close (tie.spec (λ c κs. tt) (λ c. refl) (λ c κs. tt) returns)

@@ -12,6 +12,4 @@ unfolding orPlace
 returns-2 c = rw (lt-leb _ _ (c .if1 .left))
 
 pub or-else-spec : {M : Type 1} → statement M
-or-else-spec =
-    tie.close (tie.spec
-    returns returns-2)
+or-else-spec = tie.close (tie.spec returns returns-2)

@@ -8,6 +8,4 @@ unfolding positiveAt stripAt
 returns c = (rw (c .word .ensures .0), refl)
 
 pub positive-spec : {M : Type 1} → statement M
-positive-spec =
-    tie.close (tie.spec
-    (λ c. refl) (λ c κs. tt) returns)
+positive-spec = tie.close (tie.spec (λ c. refl) (λ c κs. tt) returns)

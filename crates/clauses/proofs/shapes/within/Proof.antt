@@ -8,6 +8,4 @@ unfolding within
 returns c = (refl, refl)
 
 pub within-spec : {M : Type 1} → statement M
-within-spec =
-    tie.close (tie.spec
-    returns)
+within-spec = tie.close (tie.spec returns)

@@ -8,6 +8,4 @@ unfolding stripAt
 returns c = (c .word .ensures .0, refl)
 
 pub begin-spec : {M : Type 1} → statement M
-begin-spec =
-    tie.close (tie.spec
-    (λ c. refl) (λ c κs. tt) returns)
+begin-spec = tie.close (tie.spec (λ c. refl) (λ c κs. tt) returns)

@@ -8,6 +8,4 @@ unfolding stripAt
 returns c = (rw (c .word .ensures .0), refl)
 
 pub ends-spec : {M : Type 1} → statement M
-ends-spec =
-    tie.close (tie.spec
-    (λ c. refl) (λ c κs. tt) returns)
+ends-spec = tie.close (tie.spec (λ c. refl) (λ c κs. tt) returns)

@@ -9,6 +9,4 @@ unfolding endsOf
 returns c = (refl, (refl, refl))
 
 pub differ-spec : {M : Type 1} → statement M
-differ-spec =
-    tie.close (tie.spec
-    (λ c. search needs) (λ c. search needs) returns)
+differ-spec = tie.close (tie.spec (λ c. search needs) (λ c. search needs) returns)

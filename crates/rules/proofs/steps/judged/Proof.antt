@@ -20,6 +20,4 @@ unfolding thenClaim answer
 returns-4 c = rw (c .if1 .left)
 
 pub judged-spec : {M : Type 1} → statement M
-judged-spec =
-    tie.close (tie.spec
-    returns returns-2 returns-3 returns-4)
+judged-spec = tie.close (tie.spec returns returns-2 returns-3 returns-4)

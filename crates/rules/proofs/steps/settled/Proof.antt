@@ -15,6 +15,4 @@ unfolding settledAs
 returns-3 c = rw (c .if1 .left)
 
 pub settled-spec : {M : Type 1} → statement M
-settled-spec =
-    tie.close (tie.spec
-    returns returns-2 returns-3)
+settled-spec = tie.close (tie.spec returns returns-2 returns-3)

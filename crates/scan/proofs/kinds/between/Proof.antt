@@ -10,6 +10,4 @@ returns-2 : tie.Need-returns-2
 returns-2 c = rw (le-leb (c .before .args .first) (c .before .args .b) (omega arith))
 
 pub between-spec : {M : Type 1} → statement M
-between-spec =
-    tie.close (tie.spec
-    returns returns-2)
+between-spec = tie.close (tie.spec returns returns-2)

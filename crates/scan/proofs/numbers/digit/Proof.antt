@@ -9,6 +9,4 @@ returns : tie.Need-returns
 returns c = ap (λ k. eqb k 0) (c .kind .ensures) ∙ kind-digit _
 
 pub digit-spec : {M : Type 1} → statement M
-digit-spec =
-    tie.close (tie.spec
-    (λ c κs. search needs) returns)
+digit-spec = tie.close (tie.spec (λ c κs. search needs) returns)

@@ -13,6 +13,4 @@ unfolding goesOn
 returns-2 c = rw (le-leb 1 (c .before .args .n) (omega arith))
 
 pub goes-on-spec : {M : Type 1} → statement M
-goes-on-spec =
-    tie.close (tie.spec
-    returns returns-2)
+goes-on-spec = tie.close (tie.spec returns returns-2)

@@ -3,7 +3,7 @@ use borrow.Author.Tests.{not-false}
 use denote.Ref.{now}
 use lib.ListN.{length, drop}
 use mathlib.Core.Logic.{⊎-elim}
-use mathlib.Core.Path.{_≡_, refl, sym, _∙_, ap}
+use mathlib.Core.Path.{_≡_, _∙_, ap}
 use native.Mathlib.Omega.{arith}
 use Rattle.text.specs.Read.{strip}
 use Rattle.scan.proofs.words.ahead.Statement.{statement}

@@ -18,6 +18,4 @@ unfolding closesAt
 returns-3 c = (rw (lt-ltb _ _ (c .before .before .if1 .left), eq-eqb _ _ (c .if2 .left)), refl)
 
 pub closes-spec : {M : Type 1} → statement M
-closes-spec =
-    tie.close (tie.spec
-    returns (λ c. search needs) returns-2 returns-3)
+closes-spec = tie.close (tie.spec returns (λ c. search needs) returns-2 returns-3)
