@@ -46,6 +46,10 @@ callees t = (differ-reads.Asked, differ-reads.Learnt, word-reads.Asked, word-rea
 abbrev Deep : ℕ → Type 0
 Deep t = same-lts.Else1 (callees t) (same-at t) same.Post Inv-loop μ-loop
 
+-- Of a turn of the loop.
+abbrev deep : (t : ℕ) → same-lts.At-loop (callees t) (same-at t) same.Post Inv-loop μ-loop → Deep t
+deep t l = l .before .before .before .before .before .before .before .before .before .before
+
 module _ (t : ℕ) (e : Deep t) where
   abbrev s : same-lts.Start (callees t) (same-at t) same.Post Inv-loop μ-loop
   s = e .before .before .before .before .before .before
@@ -92,64 +96,68 @@ returns-3 t c =
 
 returns-4 : (t : ℕ) → same-lts.Need-returns-4 (callees t) (same-at t) same.Post Inv-loop μ-loop
 returns-4 t c =
-    let word = c .before .before .before .before .before .before .before .before in
+    let opened = c .before .before in
+    let second = opened .before .before .before in
+    let word = second .before .before .before in
     let e = word .before .before in
-    ends-bad (p t e) (q t e) (c .differ2 .ensures .0) (no-second (f t e) (g t e) (p t e) (q t e) (d t e) (at t e) (pos t e) (e .if1 .left) (word .word .ensures .0) (c .before .before .before .before .before .before .before .if2 .left) (c .before .before .before .before .before .word2 .ensures .0) (c .before .before .before .before .if3 .left) (c .before .before .before .past .ensures .0) (c .before .before .past2 .ensures .0) (c .before .if4 .taken))
+    ends-bad (p t e) (q t e) (c .differ2 .ensures .0) (no-second (f t e) (g t e) (p t e) (q t e) (d t e) (at t e) (pos t e) (e .if1 .left) (word .word .ensures .0) (second .before .before .if2 .left) (second .word2 .ensures .0) (opened .before .before .if3 .left) (opened .before .past .ensures .0) (opened .past2 .ensures .0) (c .before .if4 .taken))
 
 loop-holds : (t : ℕ) → same-lts.Need-loop-holds (callees t) (same-at t) same.Post Inv-loop μ-loop
 loop-holds t c =
-    let word = c .before .before .before .before .before .before .before in
+    let opened = c .before in
+    let second = opened .before .before .before in
+    let word = second .before .before .before in
     let e = word .before .before in
-    loop-begins (sameItem (f t e) (g t e) (d t e - 1)) (p t e) (q t e) _ _ (opens (f t e) (g t e) (p t e) (q t e) (d t e) (at t e) (pos t e) (e .if1 .left) (word .word .ensures .0) (c .before .before .before .before .before .before .if2 .left) (c .before .before .before .before .word2 .ensures .0) (c .before .before .before .if3 .left) (c .before .before .past .ensures .0) (c .before .past2 .ensures .0) (c .if4 .left))
+    loop-begins (sameItem (f t e) (g t e) (d t e - 1)) (p t e) (q t e) _ _ (opens (f t e) (g t e) (p t e) (q t e) (d t e) (at t e) (pos t e) (e .if1 .left) (word .word .ensures .0) (second .before .before .if2 .left) (second .word2 .ensures .0) (opened .before .before .if3 .left) (opened .before .past .ensures .0) (opened .past2 .ensures .0) (c .if4 .left))
 
 same-requires : (t : ℕ) → same-lts.Need-same-requires (callees t) (same-at t) same.Post Inv-loop μ-loop
-same-requires t c κs = let e = c .before .before .before .before .before .before .before .before .before .before .before .before .before in (lower (e .if1 .left) (e .before .before .before .before .before .before .pre .0), tt)
+same-requires t c κs = let e = deep t (c .before .before .before) in (lower (e .if1 .left) (s t e .pre .0), tt)
 
 loop-less : (t : ℕ) → same-lts.Need-loop-less (callees t) (same-at t) same.Post Inv-loop μ-loop
 loop-less t c =
     let n = c .before .before .before in
     let l = n .before in
-    let e = l .before .before .before .before .before .before .before .before .before .before in
+    let e = deep t l in
     part-less (p t e) (q t e) (l .loop .i) (l .loop .j) (l .loop .inv) (n .loop-test .taken) (c .before .if5 .taken) (shorter t e) (c .same .ensures)
 
 loop-again : (t : ℕ) → same-lts.Need-loop-again (callees t) (same-at t) same.Post Inv-loop μ-loop
 loop-again t c =
     let n = c .before .before .before in
     let l = n .before in
-    let e = l .before .before .before .before .before .before .before .before .before .before in
+    let e = deep t l in
     part-again (p t e) (q t e) (l .loop .i) (l .loop .j) (l .loop .inv) (n .loop-test .taken) (c .before .if5 .taken) (shorter t e) (c .same .ensures)
 
 returns-5 : (t : ℕ) → same-lts.Need-returns-5 (callees t) (same-at t) same.Post Inv-loop μ-loop
 returns-5 t c =
     let n = c .before .before .before .before .before in
     let l = n .before in
-    let e = l .before .before .before .before .before .before .before .before .before .before in
+    let e = deep t l in
     byte-other (p t e) (q t e) (l .loop .i) (l .loop .j) (l .loop .inv) (n .loop-test .taken) (c .before .before .before .if5 .left) (c .before .before .past3 .ensures .0) (c .before .if6 .taken) (c .differ3 .ensures .0)
 
 returns-6 : (t : ℕ) → same-lts.Need-returns-6 (callees t) (same-at t) same.Post Inv-loop μ-loop
 returns-6 t c =
     let n = c .before .before .before .before .before in
     let l = n .before in
-    let e = l .before .before .before .before .before .before .before .before .before .before in
+    let e = deep t l in
     byte-closes (p t e) (q t e) (l .loop .i) (l .loop .j) (l .loop .inv) (n .loop-test .taken) (c .before .before .before .if5 .left) (c .before .before .past3 .ensures .0) (c .before .if6 .left) (c .if7 .taken)
 
 loop-again-2 : (t : ℕ) → same-lts.Need-loop-again-2 (callees t) (same-at t) same.Post Inv-loop μ-loop
 loop-again-2 t c =
     let n = c .before .before .before .before .before in
     let l = n .before in
-    let e = l .before .before .before .before .before .before .before .before .before .before in
+    let e = deep t l in
     byte-again (p t e) (q t e) (l .loop .i) (l .loop .j) (l .loop .inv) (n .loop-test .taken) (c .before .before .before .if5 .left) (c .before .before .past3 .ensures .0) (c .before .if6 .left) (c .if7 .left)
 
 returns-7 : (t : ℕ) → same-lts.Need-returns-7 (callees t) (same-at t) same.Post Inv-loop μ-loop
 returns-7 t c =
     let l = c .before .before in
-    let e = l .before .before .before .before .before .before .before .before .before .before in
+    let e = deep t l in
     loop-ends (p t e) (q t e) (l .loop .i) (l .loop .j) (l .loop .inv) (c .before .loop-test .left) (c .differ4 .ensures .0)
 
 pub +same-spec : {M : Type 1} → statement M
 +same-spec = close μ-same λ t. same-lts.spec (callees t) (same-at t) same.Post Inv-loop μ-loop
     (λ c κs. tt) (returns t) (λ c. refl) (λ c κs. tt) (λ c κs. tt) (returns-2 t) (λ c. refl) (λ c κs. tt)
     (λ c κs. tt) (returns-3 t) (λ c κs. tt) (λ c κs. tt) (λ c κs. tt) (returns-4 t)
-    (loop-holds t) (λ c. c .before .loop-test .taken) (λ c. positive (c .before .before .before .before .before .before .before .before .before .before .before .before .before .if1 .left)) (same-requires t) (loop-less t)
+    (loop-holds t) (λ c. c .before .loop-test .taken) (λ c. positive (deep t (c .before .before .before) .if1 .left)) (same-requires t) (loop-less t)
     (loop-again t) (λ c κs. tt) (λ c κs. tt) (returns-5 t) (λ c. omega arith) (returns-6 t)
     (λ c. omega arith) (loop-again-2 t) (λ c κs. tt) (returns-7 t)

@@ -50,6 +50,10 @@ callees t = (differ-reads.Asked, differ-reads.Learnt, expect-filled-reads.Asked,
 abbrev Deep : ℕ → Type 0
 Deep t = expect-lts.Else1 (callees t) (expect-at t) expect.Post Inv-loop μ-loop
 
+-- Of a turn of the loop.
+abbrev deep : (t : ℕ) → expect-lts.At-loop (callees t) (expect-at t) expect.Post Inv-loop μ-loop → Deep t
+deep t l = l .before .before .before .before .before .before .before .before .before
+
 module _ (t : ℕ) (e : Deep t) where
   abbrev s : expect-lts.Start (callees t) (expect-at t) expect.Post Inv-loop μ-loop
   s = e .before .before .before .before .before .before .before .before
@@ -107,54 +111,54 @@ loop-holds t c =
     fill-begins (fillItem (f t e) (d t e - 1)) (p t e) (r t e) _ _ (item-opens (f t e) (p t e) (r t e) (d t e) (at t e) (pos t e) (e .if1 .left) (apart t e (word .before .before .if2 .left)) (word .word .ensures .0) (c .before .before .before .if3 .left) (c .before .before .past .ensures .0) (c .before .past2 .ensures .0) (c .if4 .left))
 
 expect-requires : (t : ℕ) → expect-lts.Need-expect-requires (callees t) (expect-at t) expect.Post Inv-loop μ-loop
-expect-requires t c κs = let e = c .before .before .before .before .before .before .before .before .before .before .before .before .before in (lower (e .if1 .left) (e .before .before .before .before .before .before .before .before .pre .0), tt)
+expect-requires t c κs = let e = deep t (c .before .before .before .before) in (lower (e .if1 .left) (s t e .pre .0), tt)
 
 loop-less : (t : ℕ) → expect-lts.Need-loop-less (callees t) (expect-at t) expect.Post Inv-loop μ-loop
 loop-less t c =
     let n = c .before .before .before .before in
     let l = n .before in
-    let e = l .before .before .before .before .before .before .before .before .before in
+    let e = deep t l in
     part-less (p t e) (r t e) (l .loop .i) (l .loop .j) (l .loop .inv) (n .loop-test .taken) (c .before .before .if5 .taken) (shorter t e) (c .expect .ensures)
 
 loop-again : (t : ℕ) → expect-lts.Need-loop-again (callees t) (expect-at t) expect.Post Inv-loop μ-loop
 loop-again t c =
     let n = c .before .before .before .before in
     let l = n .before in
-    let e = l .before .before .before .before .before .before .before .before .before in
+    let e = deep t l in
     part-again (p t e) (r t e) (l .loop .i) (l .loop .j) (l .loop .inv) (n .loop-test .taken) (c .before .before .if5 .taken) (shorter t e) (c .expect .ensures)
 
 returns-5 : (t : ℕ) → expect-lts.Need-returns-5 (callees t) (expect-at t) expect.Post Inv-loop μ-loop
 returns-5 t c =
     let n = c .before .before .before .before .before in
     let l = n .before in
-    let e = l .before .before .before .before .before .before .before .before .before in
+    let e = deep t l in
     byte-other (p t e) (r t e) (l .loop .i) (l .loop .j) (l .loop .inv) (n .loop-test .taken) (c .before .before .before .if5 .left) (c .before .before .past3 .ensures .0) (c .before .if6 .taken) (c .differ3 .ensures .0)
 
 returns-6 : (t : ℕ) → expect-lts.Need-returns-6 (callees t) (expect-at t) expect.Post Inv-loop μ-loop
 returns-6 t c =
     let n = c .before .before .before .before .before in
     let l = n .before in
-    let e = l .before .before .before .before .before .before .before .before .before in
+    let e = deep t l in
     byte-closes (p t e) (r t e) (l .loop .i) (l .loop .j) (l .loop .inv) (n .loop-test .taken) (c .before .before .before .if5 .left) (c .before .before .past3 .ensures .0) (c .before .if6 .left) (c .if7 .taken)
 
 loop-again-2 : (t : ℕ) → expect-lts.Need-loop-again-2 (callees t) (expect-at t) expect.Post Inv-loop μ-loop
 loop-again-2 t c =
     let n = c .before .before .before .before .before in
     let l = n .before in
-    let e = l .before .before .before .before .before .before .before .before .before in
+    let e = deep t l in
     byte-again (p t e) (r t e) (l .loop .i) (l .loop .j) (l .loop .inv) (n .loop-test .taken) (c .before .before .before .if5 .left) (c .before .before .past3 .ensures .0) (c .before .if6 .left) (c .if7 .left)
 
 returns-7 : (t : ℕ) → expect-lts.Need-returns-7 (callees t) (expect-at t) expect.Post Inv-loop μ-loop
 returns-7 t c =
     let l = c .before .before in
-    let e = l .before .before .before .before .before .before .before .before .before in
+    let e = deep t l in
     loop-ends (p t e) (r t e) (l .loop .i) (l .loop .j) (l .loop .inv) (c .before .loop-test .left) (c .differ4 .ensures .0)
 
 pub +expect-spec : {M : Type 1} → statement M
 +expect-spec = close μ-expect λ t. expect-lts.spec (callees t) (expect-at t) expect.Post Inv-loop μ-loop
     (λ c κs. tt) (returns t) (λ c. positive (c .before .before .before .if1 .left)) (λ c κs. tt) (λ c κs. tt) (λ c κs. tt) (returns-2 t) (λ c. refl)
     (λ c κs. tt) (λ c κs. tt) (returns-3 t) (λ c κs. tt) (λ c κs. tt) (λ c κs. tt)
-    (returns-4 t) (loop-holds t) (λ c. c .before .loop-test .taken) (λ c. positive (c .before .before .before .before .before .before .before .before .before .before .before .before .before .if1 .left))
+    (returns-4 t) (loop-holds t) (λ c. c .before .loop-test .taken) (λ c. positive (deep t (c .before .before .before .before) .if1 .left))
     (expect-requires t) (loop-less t) (loop-again t) (λ c κs. tt) (λ c κs. tt)
     (returns-5 t) (λ c. omega arith) (returns-6 t) (λ c. omega arith) (loop-again-2 t)
     (λ c κs. tt) (returns-7 t)
