@@ -24,7 +24,7 @@ pub fn agree(
 ) -> bool
     ensures value { result ≡ agree_at depth a.now x line.now first.now b.now y
         second.now }
-    ensures a_value { (a.now ≡ a.now) × (line.now ≡ line.now) × (b.now ≡ b.now) }
+    ensures a_unchanged { (a.exit.now ≡ a.entry.now) × (line.exit.now ≡ line.entry.now) × (b.exit.now ≡ b.entry.now) }
 {
     let deep = item_depth(depth);
     if second.len() == 0 {
@@ -72,7 +72,7 @@ pub fn calls(
 ) -> bool
     ensures value { result ≡ calls_at depth a.now x line.now first.now b.now y
         second.now }
-    ensures a_value { (a.now ≡ a.now) × (line.now ≡ line.now) × (b.now ≡ b.now) }
+    ensures a_unchanged { (a.exit.now ≡ a.entry.now) × (line.exit.now ≡ line.entry.now) × (b.exit.now ≡ b.entry.now) }
 {
     if agree(depth, a, x, line, first, b, y, second) {
         return parts(depth, a, next(a, x), line, first, b, next(b, y), second);
@@ -130,7 +130,7 @@ pub fn covers(
 ) -> bool
     ensures value { result ≡ covers_at depth a.now x line.now first.now b.now y
         second.now }
-    ensures a_value { (a.now ≡ a.now) × (line.now ≡ line.now) × (b.now ≡ b.now) }
+    ensures a_unchanged { (a.exit.now ≡ a.entry.now) × (line.exit.now ≡ line.entry.now) × (b.exit.now ≡ b.entry.now) }
 {
     if agree(depth, a, x, line, first, b, y, second) {
         return true;

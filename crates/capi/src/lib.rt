@@ -1,4 +1,6 @@
 // `check` and `check_job` for callers in C and Rust: an answer as three numbers and bytes.
+#![tactic(auto)]
+
 ghost use Rattle.std.specs.Prelude.{◌≤◌, ◌≡◌, length};
 ghost use Rattle.text.specs.Figures.{office};
 ghost use Rattle.meaning.specs.Means.{named};
@@ -95,7 +97,7 @@ pub extern "C" fn fcheck_check_job<'a>(
     ensures second_after { second.new ≡ second_number (verdict office (jointly office base.now job.now)) }
     ensures rests_after { rests.new ≡ flags (length rests.old)
         (rests_of office (jointly office base.now job.now)) }
-    ensures base_value { (base.now ≡ base.now) × (job.now ≡ job.now) }
+    ensures base_unchanged { (base.exit.now ≡ base.entry.now) × (job.exit.now ≡ job.entry.now) }
 {
     let answer = verdict::check_job(base, job);
     let v = answer.verdict;
@@ -117,7 +119,7 @@ pub extern "C" fn fcheck_check(
     ensures first_after { first.new ≡ first_number (verdict office text.now) }
     ensures second_after { second.new ≡ second_number (verdict office text.now) }
     ensures rests_after { rests.new ≡ flags (length rests.old) (rests_of office text.now) }
-    ensures text_value { text.now ≡ text.now }
+    ensures text_unchanged { text.exit.now ≡ text.entry.now }
 {
     fcheck_check_job(text, &text[0..0], first, second, rests)
 }

@@ -1,4 +1,6 @@
 // One of two values, and two tests as one.
+#![tactic(auto)]
+
 ghost use Rattle.std.specs.Prelude.{max, ◌≡◌, cond, not, ◌&&◌, ◌||◌};
 
 pub fn both(x: bool, y: bool) -> bool

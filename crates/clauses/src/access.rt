@@ -14,7 +14,7 @@ const STRIDE: usize = 16;
 const DEEP: usize = 3;
 
 // A place inside of an item, and the brackets that are open there besides the item's own.
-#[derive(Drop)]
+#[derive(Clone, Copy)]
 struct Inside {
     at: usize,
     level: usize,
@@ -70,7 +70,7 @@ fn leap(s: &[u8], at: usize, level: usize) -> Inside
 // The place past the item that begins at `at`.
 pub fn skip(s: &[u8], at: usize) -> usize
     ensures value { result ≡ end_of s.now (skip_item (drop at s.now)) }
-    ensures s_value { s.now ≡ s.now }
+    ensures s_unchanged { s.exit.now ≡ s.entry.now }
 {
     let n = s.len();
     if at >= n {
@@ -100,8 +100,8 @@ pub fn skip(s: &[u8], at: usize) -> usize
 
 // The bytes of entry n of a list, between two of the places of its entries.
 pub fn entry<'a>(s: &'a [u8], starts: &[usize], n: usize) -> &'a [u8]
-    ensures result_value { result.now ≡ entry_of s.now starts.now n }
-    ensures s_value { s.now ≡ s.now }
+    ensures value { result.now ≡ entry_of s.now starts.now n }
+    ensures s_unchanged { s.exit.now ≡ s.entry.now }
 {
     if starts.len() == 0 {
         return &s[0..0];
@@ -134,7 +134,7 @@ fn term(s: &[u8], at: usize) -> bool
 // The place of term occurrence k in the item that begins at `at`.
 pub fn occurrence(s: &[u8], at: usize, k: usize) -> usize
     ensures value { result ≡ occurrence_at s.now at k }
-    ensures s_value { s.now ≡ s.now }
+    ensures s_unchanged { s.exit.now ≡ s.entry.now }
 {
     let mut i = word(s, at, b"(");
     let mut left = k;

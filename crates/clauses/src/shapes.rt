@@ -14,7 +14,7 @@ use scan::words::word;
 // A place of the clause.
 pub fn within(clause: &[u8], at: usize) -> bool
     ensures value { result ≡ within_at clause.now at }
-    ensures clause_value { clause.now ≡ clause.now }
+    ensures clause_unchanged { clause.exit.now ≡ clause.entry.now }
 {
     at <= clause.len()
 }
@@ -22,7 +22,7 @@ pub fn within(clause: &[u8], at: usize) -> bool
 // Literal n of the clause.
 pub fn literal(clause: &[u8], n: usize) -> usize
     ensures value { result ≡ place_at clause.now n }
-    ensures clause_value { clause.now ≡ clause.now }
+    ensures clause_unchanged { clause.exit.now ≡ clause.entry.now }
 {
     item(clause, word(clause, 0, b"(or"), n)
 }
@@ -30,7 +30,7 @@ pub fn literal(clause: &[u8], n: usize) -> usize
 // The item after the one at `at`.
 pub fn next(clause: &[u8], at: usize) -> usize
     ensures value { result ≡ next_at clause.now at }
-    ensures clause_value { clause.now ≡ clause.now }
+    ensures clause_unchanged { clause.exit.now ≡ clause.entry.now }
 {
     word(clause, skip(clause, at), b" ")
 }
@@ -38,7 +38,7 @@ pub fn next(clause: &[u8], at: usize) -> usize
 // The atom of a positive literal.
 pub fn positive(clause: &[u8], at: usize) -> usize
     ensures value { result ≡ positive_at clause.now at }
-    ensures clause_value { clause.now ≡ clause.now }
+    ensures clause_unchanged { clause.exit.now ≡ clause.entry.now }
 {
     word(clause, at, b"(+ ")
 }
@@ -46,7 +46,7 @@ pub fn positive(clause: &[u8], at: usize) -> usize
 // The atom of a negative literal.
 pub fn negative(clause: &[u8], at: usize) -> usize
     ensures value { result ≡ negative_at clause.now at }
-    ensures clause_value { clause.now ≡ clause.now }
+    ensures clause_unchanged { clause.exit.now ≡ clause.entry.now }
 {
     word(clause, at, b"(- ")
 }
@@ -70,7 +70,7 @@ fn if_place(clause: &[u8], x: usize, y: usize) -> usize
 // The atom of a literal of either sign.
 pub fn atom(clause: &[u8], at: usize) -> usize
     ensures value { result ≡ atom_at clause.now at }
-    ensures clause_value { clause.now ≡ clause.now }
+    ensures clause_unchanged { clause.exit.now ≡ clause.entry.now }
 {
     or_else(clause, positive(clause, at), negative(clause, at))
 }
@@ -78,7 +78,7 @@ pub fn atom(clause: &[u8], at: usize) -> usize
 // The literals at x of a and at y of b have one sign.
 pub fn same_sign(a: &[u8], x: usize, b: &[u8], y: usize) -> bool
     ensures value { result ≡ same_sign_at a.now x b.now y }
-    ensures a_value { (a.now ≡ a.now) × (b.now ≡ b.now) }
+    ensures a_unchanged { (a.exit.now ≡ a.entry.now) × (b.exit.now ≡ b.entry.now) }
 {
     let plus = both(within(a, positive(a, x)), within(b, positive(b, y)));
     let minus = both(within(a, negative(a, x)), within(b, negative(b, y)));
@@ -95,7 +95,7 @@ fn first(clause: &[u8], head: &[u8], at: usize) -> usize
 // The first term of a positive eq, mem or sub.
 pub fn link(clause: &[u8], kind: Link, at: usize) -> usize
     ensures value { result ≡ link_at clause.now kind at }
-    ensures clause_value { clause.now ≡ clause.now }
+    ensures clause_unchanged { clause.exit.now ≡ clause.entry.now }
 {
     match kind {
         Link::Eq => first(clause, b"(eq ", at),
@@ -107,7 +107,7 @@ pub fn link(clause: &[u8], kind: Link, at: usize) -> usize
 // The term of a negative obj.
 pub fn denied(clause: &[u8], at: usize) -> usize
     ensures value { result ≡ denied_at clause.now at }
-    ensures clause_value { clause.now ≡ clause.now }
+    ensures clause_unchanged { clause.exit.now ≡ clause.entry.now }
 {
     word(clause, at, b"(- (obj ")
 }
@@ -115,7 +115,7 @@ pub fn denied(clause: &[u8], at: usize) -> usize
 // The result of an arrow atom whose object begins at `object`.
 pub fn result(clause: &[u8], object: usize) -> usize
     ensures value { result ≡ result_at clause.now object }
-    ensures clause_value { clause.now ≡ clause.now }
+    ensures clause_unchanged { clause.exit.now ≡ clause.entry.now }
 {
     next(clause, next(clause, next(clause, object)))
 }
@@ -123,7 +123,7 @@ pub fn result(clause: &[u8], object: usize) -> usize
 // The same, if it is a term.
 pub fn value(clause: &[u8], object: usize) -> usize
     ensures value { result ≡ value_at clause.now object }
-    ensures clause_value { clause.now ≡ clause.now }
+    ensures clause_unchanged { clause.exit.now ≡ clause.entry.now }
 {
     let at = result(clause, object);
     if_place(clause, word(clause, at, b"("), at)
@@ -132,7 +132,7 @@ pub fn value(clause: &[u8], object: usize) -> usize
 // Argument n of an arrow atom whose object begins at `object`.
 pub fn argument(clause: &[u8], object: usize, n: usize) -> usize
     ensures value { result ≡ method_argument_at clause.now object n }
-    ensures clause_value { clause.now ≡ clause.now }
+    ensures clause_unchanged { clause.exit.now ≡ clause.entry.now }
 {
     listed(clause, next(clause, next(clause, object)), n)
 }
@@ -148,7 +148,7 @@ fn object(clause: &[u8], head: &[u8], other: &[u8], at: usize) -> usize
 // The object of a positive sv or si.
 pub fn scalar(clause: &[u8], at: usize) -> usize
     ensures value { result ≡ scalar_at clause.now at }
-    ensures clause_value { clause.now ≡ clause.now }
+    ensures clause_unchanged { clause.exit.now ≡ clause.entry.now }
 {
     object(clause, b"(sv ", b"(si ", at)
 }
@@ -156,7 +156,7 @@ pub fn scalar(clause: &[u8], at: usize) -> usize
 // The object of a positive st or mt.
 pub fn signature(clause: &[u8], at: usize) -> usize
     ensures value { result ≡ signature_at clause.now at }
-    ensures clause_value { clause.now ≡ clause.now }
+    ensures clause_unchanged { clause.exit.now ≡ clause.entry.now }
 {
     object(clause, b"(st ", b"(mt ", at)
 }
@@ -164,7 +164,7 @@ pub fn signature(clause: &[u8], at: usize) -> usize
 // The literals at x of a and at y of b both have the head of sv, or neither has.
 pub fn same_arrow(a: &[u8], x: usize, b: &[u8], y: usize) -> bool
     ensures value { result ≡ same_arrow_at a.now x b.now y }
-    ensures a_value { (a.now ≡ a.now) × (b.now ≡ b.now) }
+    ensures a_unchanged { (a.exit.now ≡ a.entry.now) × (b.exit.now ≡ b.entry.now) }
 {
     let sv = within(a, first(a, b"(sv ", x));
     equal(sv, within(b, first(b, b"(sv ", y)))
@@ -173,7 +173,7 @@ pub fn same_arrow(a: &[u8], x: usize, b: &[u8], y: usize) -> bool
 // The places of the entries of the list of the line that begins at `at`.
 pub fn list(line: &[u8], at: usize) -> [usize; PLACES]
     ensures value { result ≡ list_at line.now at }
-    ensures line_value { line.now ≡ line.now }
+    ensures line_unchanged { line.exit.now ≡ line.entry.now }
 {
     starts(line, word(line, at, b"(let"))
 }

@@ -1,4 +1,6 @@
 // What the programs share: a text is read into a buffer, an answer is printed, and so are help, version and messages.
+#![tactic(auto)]
+
 ghost use Rattle.std.specs.Prelude.{◌+◌, ◌≤◌, ◌<◌, ◌≡◌, true, ◌||◌, ◌++◌, length, drop};
 ghost use Rattle.io.specs.Counts.{IsPrefixLen};
 ghost use Rattle.meaning.specs.Means.{named};

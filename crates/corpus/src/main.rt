@@ -1,5 +1,7 @@
 // Prints the answer to each text of a stored corpus, and then to each base and job of stored pairs. A text is stored as its length, in four
 // bytes, the lowest first, and then its bytes, at most 65,536; a pair is two texts, the base first.
+#![tactic(auto)]
+
 ghost use Rattle.std.specs.Prelude.{◌<◌};
 ghost use Rattle.io.specs.Counts.{IsPrefixLen};
 

@@ -1,4 +1,6 @@
 // From which inputs a clause descends: one walk back over the clauses, by the parents that each step uses.
+#![tactic(auto)]
+
 ghost use Rattle.std.specs.Prelude.{◌<◌, ◌≡◌};
 ghost use Rattle.text.specs.Figures.{office};
 ghost use Rattle.descent.specs.Walk.{held_parent, parents_by, marked, passed, inputs_from};
@@ -8,7 +10,7 @@ use rule_numbers::used;
 use text::LINES;
 
 // The numbers of the parents that a step uses; LINES, which no clause has, for one that it does not use.
-#[derive(Drop)]
+#[derive(Clone, Copy)]
 pub struct Parents {
     pub a: u16,
     pub b: u16,

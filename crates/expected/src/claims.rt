@@ -11,7 +11,7 @@ use filling::compare::{Ends, hole_depth, item_depth, stands};
 use scan::words::word;
 
 // The term at `term` of the literal at `literal` of one clause is replaced by the one at `from` of another.
-#[derive(Drop)]
+#[derive(Clone, Copy)]
 pub struct Hole {
     pub literal: usize,
     pub term: usize,
@@ -19,7 +19,7 @@ pub struct Hole {
 }
 
 // The terms at `left` of one clause and at `right` of another.
-#[derive(Drop)]
+#[derive(Clone, Copy)]
 pub struct Terms {
     pub left: usize,
     pub right: usize,
@@ -28,7 +28,7 @@ pub struct Terms {
 // The beginning of the claim.
 pub fn begin(rest: &[u8]) -> usize
     ensures value { result ≡ literals_at rest.now }
-    ensures rest_value { rest.now ≡ rest.now }
+    ensures rest_unchanged { rest.exit.now ≡ rest.entry.now }
 {
     word(rest, 0, b"(or")
 }
@@ -36,7 +36,7 @@ pub fn begin(rest: &[u8]) -> usize
 // Whether the claim ends at the place, and the line with it.
 pub fn ends(rest: &[u8], pos: usize) -> bool
     ensures value { result ≡ eqb (claim_end rest.now pos) (length rest.now) }
-    ensures rest_value { rest.now ≡ rest.now }
+    ensures rest_unchanged { rest.exit.now ≡ rest.entry.now }
 {
     word(rest, pos, b"))") == rest.len()
 }
@@ -86,8 +86,8 @@ pub fn others(
 ) -> usize
     ensures value { result ≡ others_at depth clause.now count dropped line.now list.now rest.now
         pos }
-    ensures clause_value { (clause.now ≡ clause.now) × (line.now ≡ line.now) }
-    ensures rest_value { rest.now ≡ rest.now }
+    ensures clause_unchanged { (clause.exit.now ≡ clause.entry.now) × (line.exit.now ≡ line.entry.now) }
+    ensures rest_unchanged { rest.exit.now ≡ rest.entry.now }
 {
     let mut at = word(clause, 0, b"(or");
     let mut place = pos;
@@ -113,7 +113,7 @@ pub fn others(
 pub fn reflexive(depth: u8, line: &[u8], list: &[usize], rest: &[u8]) -> usize
     ensures value { result ≡ reflexive_at depth line.now list.now rest.now
         (literals_at rest.now) }
-    ensures line_value { (line.now ≡ line.now) × (rest.now ≡ rest.now) }
+    ensures line_unchanged { (line.exit.now ≡ line.entry.now) × (rest.exit.now ≡ rest.entry.now) }
 {
     let open = word(rest, begin(rest), b" (+ (sub ");
     let left = filled(depth, b"(v 0)", 0, line, list, rest, open);
@@ -134,8 +134,8 @@ pub fn equated(
 ) -> usize
     ensures value { result ≡ equated_at depth a.now terms.left line.now first.now b.now
         terms.right second.now rest.now (literals_at rest.now) }
-    ensures a_value { (a.now ≡ a.now) × (b.now ≡ b.now) }
-    ensures line_value { (line.now ≡ line.now) × (rest.now ≡ rest.now) }
+    ensures a_unchanged { (a.exit.now ≡ a.entry.now) × (b.exit.now ≡ b.entry.now) }
+    ensures line_unchanged { (line.exit.now ≡ line.entry.now) × (rest.exit.now ≡ rest.entry.now) }
 {
     let open = word(rest, begin(rest), b" (+ (eq ");
     let left = filled(depth, a, terms.left, line, first, rest, open);
@@ -165,8 +165,8 @@ pub fn rewritten(
     ensures value { result ≡ rewritten_at depth a.now hole.literal hole.term line.now first.now
         b.now hole.from second.now rest.now
         (literals_at rest.now) }
-    ensures a_value { (a.now ≡ a.now) × (b.now ≡ b.now) }
-    ensures line_value { (line.now ≡ line.now) × (rest.now ≡ rest.now) }
+    ensures a_unchanged { (a.exit.now ≡ a.entry.now) × (b.exit.now ≡ b.entry.now) }
+    ensures line_unchanged { (line.exit.now ≡ line.entry.now) × (rest.exit.now ≡ rest.entry.now) }
 {
     let pos = word(rest, begin(rest), b" ");
     let w = Walk {

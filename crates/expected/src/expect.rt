@@ -7,7 +7,7 @@ use filling::compare::{Ends, differ, expect_entry, expect_filled, past, reach};
 use scan::words::word;
 
 // A place of the clause and one of the other text; the item at `hole` is replaced by the one at `from`; so many brackets deep at most.
-#[derive(Drop)]
+#[derive(Clone, Copy)]
 pub struct Walk {
     pub at: usize,
     pub pos: usize,

@@ -1,4 +1,6 @@
 // Reads a text from standard input and prints the answer to it.
+#![tactic(auto)]
+
 use libc::STDIN_FILENO;
 use print::ROOM;
 

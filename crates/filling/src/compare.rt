@@ -25,7 +25,7 @@ pub fn hole_depth(depth: u8) -> usize
 }
 
 // The places past what was compared, in the clause and in the other text; past their ends where they differ.
-#[derive(Drop)]
+#[derive(Clone, Copy)]
 pub struct Ends {
     pub at: usize,
     pub pos: usize,
@@ -34,7 +34,7 @@ pub struct Ends {
 // The places past the ends.
 pub fn differ(clause: &[u8], other: &[u8]) -> Ends
     ensures value { result ≡ ends_of clause.now other.now bad }
-    ensures clause_value { (clause.now ≡ clause.now) × (other.now ≡ other.now) }
+    ensures clause_unchanged { (clause.exit.now ≡ clause.entry.now) × (other.exit.now ≡ other.entry.now) }
 {
     Ends {
         at: clause.len() + 1,
@@ -45,7 +45,7 @@ pub fn differ(clause: &[u8], other: &[u8]) -> Ends
 // The two places, where both are places of their texts.
 pub fn reach(clause: &[u8], at: usize, other: &[u8], pos: usize) -> Ends
     ensures value { result ≡ ends_at clause.now at other.now pos }
-    ensures clause_value { (clause.now ≡ clause.now) × (other.now ≡ other.now) }
+    ensures clause_unchanged { (clause.exit.now ≡ clause.entry.now) × (other.exit.now ≡ other.entry.now) }
 {
     if at > clause.len() {
         return differ(clause, other);
@@ -59,7 +59,7 @@ pub fn reach(clause: &[u8], at: usize, other: &[u8], pos: usize) -> Ends
 // The place past this byte, if it stands at `at`.
 pub fn past(text: &[u8], at: usize, byte: u8) -> usize
     ensures value { result ≡ end_of text.now (strip (byte ∷ []) (drop at text.now)) }
-    ensures text_value { text.now ≡ text.now }
+    ensures text_unchanged { text.exit.now ≡ text.entry.now }
 {
     if at >= text.len() {
         return text.len() + 1;
@@ -96,7 +96,7 @@ pub fn expect_entry(
     ensures value { result ≡ ends_of clause.now rest.now
         (matches (indexed (entry_of line.now list.now) (drop at clause.now))
         (drop pos rest.now)) }
-    ensures clause_value { (clause.now ≡ clause.now) × (line.now ≡ line.now) × (rest.now ≡ rest.now) }
+    ensures clause_unchanged { (clause.exit.now ≡ clause.entry.now) × (line.exit.now ≡ line.entry.now) × (rest.exit.now ≡ rest.entry.now) }
 {
     let index = number(clause, at);
     let end = past(clause, index.end, b')');
@@ -174,7 +174,7 @@ pub fn expect_filled(
     ensures value { result ≡ ends_of clause.now rest.now
         (matches (fill_item (plain line.now list.now) depth (drop at clause.now))
         (drop pos rest.now)) }
-    ensures clause_value { (clause.now ≡ clause.now) × (line.now ≡ line.now) × (rest.now ≡ rest.now) }
+    ensures clause_unchanged { (clause.exit.now ≡ clause.entry.now) × (line.exit.now ≡ line.entry.now) × (rest.exit.now ≡ rest.entry.now) }
 {
     if depth == 0 {
         return differ(clause, rest);
@@ -217,7 +217,7 @@ pub fn stands(
     ensures value { result ≡ ends_of clause.now rest.now
         (matches (filled_by line.now list.now depth (drop at clause.now))
         (drop pos rest.now)) }
-    ensures clause_value { (clause.now ≡ clause.now) × (line.now ≡ line.now) × (rest.now ≡ rest.now) }
+    ensures clause_unchanged { (clause.exit.now ≡ clause.entry.now) × (line.exit.now ≡ line.entry.now) × (rest.exit.now ≡ rest.entry.now) }
 {
     if list.len() == 0 {
         return expect_ground(clause, at, rest, pos);

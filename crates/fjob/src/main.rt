@@ -1,4 +1,6 @@
 // Reads a base from the file that is named and a job from standard input, and prints the answer to the two.
+#![tactic(auto)]
+
 ghost use Rattle.io.specs.Counts.{IsPrefixLen};
 
 use libc::{STDERR_FILENO, STDIN_FILENO};

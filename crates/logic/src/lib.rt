@@ -1,13 +1,14 @@
 // The signs (T16), links, arrows and rules of the text form. Specifications and code share these types.
+#![tactic(auto)]
 
-#[derive(Drop)]
+#[derive(Clone, Copy)]
 pub enum Sign {
     Positive,
     Negative,
 }
 
 // The atoms of two terms (T13): (eq T U), (mem T U), (sub T U).
-#[derive(Drop)]
+#[derive(Clone, Copy)]
 pub enum Link {
     Eq,
     Mem,
@@ -15,7 +16,7 @@ pub enum Link {
 }
 
 // sv, si, mv, mi, st, mt (T14).
-#[derive(Drop)]
+#[derive(Clone, Copy)]
 pub enum Arrow {
     Sv,
     Si,
@@ -26,7 +27,7 @@ pub enum Arrow {
 }
 
 // The twelve rules (T10), in the order of the rule table (R8 to R19).
-#[derive(Drop)]
+#[derive(Clone, Copy)]
 pub enum Rule {
     Refl,
     Res,
@@ -43,7 +44,7 @@ pub enum Rule {
 }
 
 // What checks 7 to 11 (V17 to V21) say of a step.
-#[derive(Drop)]
+#[derive(Clone, Copy)]
 pub enum Judged {
     Passed,
     NoParent,

@@ -1,8 +1,10 @@
 // What an answer to a text is. What it means stands in specs/; there is no code.
+#![tactic(auto)]
+
 use text::LINES;
 
 // What is found of a text.
-#[derive(Drop)]
+#[derive(Clone, Copy)]
 pub enum Verdict {
     // Accepted: the number of clauses, and the number of the first empty one.
     Refuted { count: usize, first: usize },

@@ -1,4 +1,6 @@
 // Where all lines have passed: the first empty clause, and the answer, by what is held of the clauses.
+#![tactic(auto)]
+
 ghost use Rattle.std.specs.Prelude.{◌≡◌, take};
 ghost use Rattle.outcome.specs.Ends.{first_zero, ends_as, marks_as};
 
@@ -8,7 +10,7 @@ use text::LINES;
 // The number of the first empty clause, of so many, or of all where none is empty, by their numbers of literals.
 pub fn first_empty(literals: &[u8], clauses: usize) -> usize
     ensures value { result ≡ first_zero (take clauses literals.now) }
-    ensures literals_value { literals.now ≡ literals.now }
+    ensures literals_unchanged { literals.exit.now ≡ literals.entry.now }
 {
     let mut n = 0;
     while n < clauses {

@@ -1,4 +1,6 @@
 // The lines that answer a text.
+#![tactic(auto)]
+
 ghost use Rattle.std.specs.Prelude.{◌+◌, ◌≤◌, ◌≡◌, [], ◌∷◌, ◌++◌, length, drop};
 ghost use Rattle.text.specs.Words.{bytes};
 ghost use Rattle.meaning.specs.Means.{named};
@@ -15,7 +17,7 @@ pub const ROOM: usize = 8192;
 // Puts a space and n at the start of out, and answers how many bytes were put.
 fn put_spaced(n: usize, out: &mut [u8]) -> usize
     ensures wrote { Wrote (spaced (n ∷ [])) out.old result out.new }
-    ensures n_len_bound { length (spaced (n ∷ [])) ≤ 21 }
+    ensures at_most { length (spaced (n ∷ [])) ≤ 21 }
 {
     let at = put(b" ", out);
     at + put_number(n, &mut out[at..])
@@ -24,7 +26,7 @@ fn put_spaced(n: usize, out: &mut [u8]) -> usize
 // Puts two numbers at the start of out, each after a space, and answers how many bytes were put.
 fn put_pair(a: usize, b: usize, out: &mut [u8]) -> usize
     ensures wrote { Wrote (spaced (a ∷ (b ∷ []))) out.old result out.new }
-    ensures b_len_bound { length (spaced (a ∷ (b ∷ []))) ≤ 42 }
+    ensures at_most { length (spaced (a ∷ (b ∷ []))) ≤ 42 }
 {
     let at = put_spaced(a, out);
     at + put_spaced(b, &mut out[at..])
@@ -33,7 +35,7 @@ fn put_pair(a: usize, b: usize, out: &mut [u8]) -> usize
 // Puts a word, one number and a line end at the start of out, and answers how many bytes were put.
 fn put_one(word: &[u8], a: usize, out: &mut [u8]) -> usize
     ensures wrote { Wrote (word_line word.now (a ∷ [])) out.old result out.new }
-    ensures a_in_bounds { length (word_line word.now (a ∷ [])) ≤ length word.now + 22 }
+    ensures at_most { length (word_line word.now (a ∷ [])) ≤ length word.now + 22 }
 {
     let at = put(word, out);
     let end = at + put_spaced(a, &mut out[at..]);
@@ -43,7 +45,7 @@ fn put_one(word: &[u8], a: usize, out: &mut [u8]) -> usize
 // Puts a word, two numbers and a line end at the start of out, and answers how many bytes were put.
 fn put_two(word: &[u8], a: usize, b: usize, out: &mut [u8]) -> usize
     ensures wrote { Wrote (word_line word.now (a ∷ (b ∷ []))) out.old result out.new }
-    ensures b_in_bounds { length (word_line word.now (a ∷ (b ∷ []))) ≤ length word.now + 43 }
+    ensures at_most { length (word_line word.now (a ∷ (b ∷ []))) ≤ length word.now + 43 }
 {
     let at = put(word, out);
     let last = at + put_pair(a, b, &mut out[at..]);
@@ -53,7 +55,7 @@ fn put_two(word: &[u8], a: usize, b: usize, out: &mut [u8]) -> usize
 // Puts the verdict's line at the start of out, and answers how many bytes were put.
 fn put_verdict(v: Verdict, out: &mut [u8]) -> usize
     ensures wrote { Wrote (verdict_line v) out.old result out.new }
-    ensures v_len_bound { length (verdict_line v) ≤ 64 }
+    ensures at_most { length (verdict_line v) ≤ 64 }
 {
     match v {
         Verdict::Refuted { count, first } => put_two(b"refuted", count, first, out),
@@ -89,7 +91,7 @@ fn put_rests(marks: &[bool; LINES], out: &mut [u8]) -> usize
 // Puts the lines of a verdict and of the marked numbers at the start of out, and answers how many bytes were put.
 fn put_lines(v: Verdict, marks: &[bool; LINES], out: &mut [u8]) -> usize
     ensures wrote { Wrote (written v (named marks.now)) out.old result out.new }
-    ensures marks_len_bound { length (written v (named marks.now)) ≤ 8192 }
+    ensures at_most { length (written v (named marks.now)) ≤ 8192 }
 {
     let at = put_verdict(v, out);
     match v {

@@ -12,14 +12,14 @@ use scan::tables::rule;
 use scan::words::word;
 
 // A clause or a list of a line: where it begins, and its measure.
-#[derive(Drop)]
+#[derive(Clone, Copy)]
 pub struct ItemAt {
     pub start: usize,
     pub measure: Measure,
 }
 
 // A step: its rule, its numbers, its two lists and its claim.
-#[derive(Drop)]
+#[derive(Clone, Copy)]
 pub struct StepAt {
     pub rule: Rule,
     pub a: usize,
@@ -33,7 +33,7 @@ pub struct StepAt {
 }
 
 // What a line is: no form; K of a sym line; the clause of an in line; a step.
-#[derive(Drop)]
+#[derive(Clone, Copy)]
 pub enum LineAt {
     NoForm,
     Sym(usize),
@@ -79,7 +79,7 @@ fn spaced(s: &[u8], at: usize) -> NumberAt
 }
 
 // RULE A I B J K of a step, and the place past them.
-#[derive(Drop)]
+#[derive(Clone, Copy)]
 struct HeadAt {
     rule: Rule,
     a: usize,
@@ -156,7 +156,7 @@ fn step_line(s: &[u8], at: usize, depth: usize, table: &[u8]) -> LineAt
 // A line without its line end, over the table of argument counts, its terms at most `depth` deep.
 pub fn line(s: &[u8], table: &[u8], depth: u8) -> LineAt
     ensures value { result ≡ line_of table.now s.now (read_line depth s.now) }
-    ensures s_value { (s.now ≡ s.now) × (table.now ≡ table.now) }
+    ensures s_unchanged { (s.exit.now ≡ s.entry.now) × (table.exit.now ≡ table.entry.now) }
 {
     let deep = depth as usize;
     let y = word(s, 0, b"(sym ");

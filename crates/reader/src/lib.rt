@@ -1,4 +1,6 @@
 // Reading a line: what form it is, where its parts stand, and a measure of them.
+#![tactic(auto)]
+
 mod atoms;
 mod clauses;
 pub mod forms;

@@ -5,7 +5,7 @@ ghost use Rattle.reader.specs.Summary.{bounds_of, no_bounds, below_bounds, symbo
 use choices::{both, larger};
 
 // What is bounded of a part: the highest variable plus 1, the most method arguments, and whether every applied symbol is declared.
-#[derive(Drop)]
+#[derive(Clone, Copy)]
 pub struct Bounds {
     pub width: usize,
     pub arguments: usize,
@@ -13,7 +13,7 @@ pub struct Bounds {
 }
 
 // How many parts, and their bounds joined from left to right.
-#[derive(Drop)]
+#[derive(Clone, Copy)]
 pub struct Measure {
     pub count: usize,
     pub bounds: Bounds,

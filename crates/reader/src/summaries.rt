@@ -5,7 +5,7 @@ ghost use Rattle.reader.specs.Summary.{settled};
 use crate::measures::{Measure, none};
 
 // The place after the part, and its measure.
-#[derive(Drop)]
+#[derive(Clone, Copy)]
 pub struct Summary {
     pub end: usize,
     pub measure: Measure,

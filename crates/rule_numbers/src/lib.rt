@@ -1,4 +1,6 @@
 // Which of the numbers A I B J K each rule uses: checks 7 and 8 go by this table.
+#![tactic(auto)]
+
 ghost use Rattle.std.specs.Prelude.{◌≡◌};
 ghost use Rattle.logic.specs.StepChecks.{below as below_if, zero_if_unused};
 ghost use Rattle.logic.specs.Rules.{uses as uses_of};

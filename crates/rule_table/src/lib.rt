@@ -1,4 +1,6 @@
 // Checks 9 and 10: the rule table. The literals at I and J begin at the places x of clause a and y of clause b.
+#![tactic(auto)]
+
 ghost use Rattle.std.specs.Prelude.{◌≡◌};
 ghost use Rattle.rule_table.specs.Rows.{row_of, target_place, nothing_found, found_by, resolved, factored, replaced, crossed, called, denying, agrees_by};
 
@@ -13,7 +15,7 @@ use logic::{Link, Rule};
 use rule_numbers::row;
 
 // What a rule asks of its literals.
-#[derive(Drop)]
+#[derive(Clone, Copy)]
 pub enum Kind {
     Reflexivity,
     Resolution,
@@ -26,7 +28,7 @@ pub enum Kind {
 
 // The term of the literal at I that a rewriting rule replaces: occurrence K, the second term of sub or mem, or the object, argument K or
 // the term result of a signature.
-#[derive(Drop)]
+#[derive(Clone, Copy)]
 pub enum Target {
     Nothing,
     Occurrence,
@@ -38,7 +40,7 @@ pub enum Target {
 }
 
 // A row of the rule table. A rewriting rule has a link at J: forward, the target agrees with its first term and the second takes its place.
-#[derive(Drop)]
+#[derive(Clone, Copy)]
 pub struct Row {
     pub kind: Kind,
     pub target: Target,
@@ -123,7 +125,7 @@ const ROWS: [Row; 12] = [
 
 // What a step names in its parents. Whether the shape is right; for two arrow atoms, whether the arrow is the same; the literal at I; two
 // places in clause a, two in clause b: `left` has to agree with `right`.
-#[derive(Drop)]
+#[derive(Clone, Copy)]
 pub struct Found {
     pub kind: Kind,
     pub shaped: bool,
@@ -251,7 +253,7 @@ fn elimination(a: &[u8], x: usize) -> Found
 // The second column: what the shape names.
 pub fn find(r: Row, k: usize, a: &[u8], x: usize, b: &[u8], y: usize) -> Found
     ensures value { result ≡ found_by r.kind r k a.now x b.now y }
-    ensures a_value { (a.now ≡ a.now) × (b.now ≡ b.now) }
+    ensures a_unchanged { (a.exit.now ≡ a.entry.now) × (b.exit.now ≡ b.entry.now) }
 {
     let kind = r.kind;
     match kind {
@@ -277,7 +279,7 @@ pub fn agrees(
 ) -> bool
     ensures value { result ≡ agrees_by depth f.kind f a.now line.now first.now b.now
         second.now }
-    ensures a_value { (a.now ≡ a.now) × (b.now ≡ b.now) × (line.now ≡ line.now) }
+    ensures a_unchanged { (a.exit.now ≡ a.entry.now) × (b.exit.now ≡ b.entry.now) × (line.exit.now ≡ line.entry.now) }
 {
     let kind = f.kind;
     match kind {

@@ -8,7 +8,7 @@ use rule_table::{Found, Kind};
 
 // What the claim keeps, of terms that nest at most `depth` deep: of A's first `a` literals all but literal i, of B's first `b` all but
 // literal j.
-#[derive(Drop)]
+#[derive(Clone, Copy)]
 pub struct Kept {
     pub depth: u8,
     pub a: usize,

@@ -18,14 +18,14 @@ use source::clause_part;
 const PLACES: usize = 33;
 
 // Of a parent its number of literals, and its highest variable plus 1.
-#[derive(Drop)]
+#[derive(Clone, Copy)]
 pub struct Size {
     pub literals: usize,
     pub width: usize,
 }
 
 // The numbers of literals of A and B; an unused one has none.
-#[derive(Drop)]
+#[derive(Clone, Copy)]
 struct Literals {
     a: usize,
     b: usize,
@@ -144,7 +144,7 @@ pub fn judge(
 ) -> Judged
     ensures value { result ≡ step_at depth own a.now of_a b.now of_b line.now step }
     ensures judges { Judges depth own a.now of_a b.now of_b line.now step result }
-    ensures a_value { (a.now ≡ a.now) × (b.now ≡ b.now) × (line.now ≡ line.now) }
+    ensures a_unchanged { (a.exit.now ≡ a.entry.now) × (b.exit.now ≡ b.entry.now) × (line.exit.now ≡ line.entry.now) }
 {
     let rule = step.rule;
     let first = step.first;

@@ -9,7 +9,7 @@ use crate::kinds::{KIND_DIGIT, kind};
 // The largest number N.
 const LARGEST: usize = 65535;
 
-#[derive(Drop)]
+#[derive(Clone, Copy)]
 pub struct NumberAt {
     pub end: usize,
     pub value: usize,
@@ -58,7 +58,7 @@ fn digits(s: &[u8], at: usize, first: usize) -> NumberAt
 
 pub fn number(s: &[u8], at: usize) -> NumberAt
     ensures value { result ≡ number_at s.now (read_number (drop at s.now)) }
-    ensures s_value { s.now ≡ s.now }
+    ensures s_unchanged { s.exit.now ≡ s.entry.now }
 {
     if at >= s.len() {
         return NumberAt {

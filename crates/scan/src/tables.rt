@@ -6,32 +6,32 @@ ghost use Rattle.scan.specs.Tables.{read_link_word, read_arrow_word, link_at, ar
 use crate::words::word;
 use logic::{Arrow, Link, Rule, Sign};
 
-#[derive(Drop)]
+#[derive(Clone, Copy)]
 pub struct LinkAt {
     pub end: usize,
     pub link: Link,
 }
 
-#[derive(Drop)]
+#[derive(Clone, Copy)]
 pub struct ArrowAt {
     pub end: usize,
     pub arrow: Arrow,
 }
 
-#[derive(Drop)]
+#[derive(Clone, Copy)]
 pub struct RuleAt {
     pub end: usize,
     pub rule: Rule,
 }
 
-#[derive(Drop)]
+#[derive(Clone, Copy)]
 pub struct SignAt {
     pub end: usize,
     pub sign: Sign,
 }
 
 // Which word of a table: how many stand before it, and where it ends.
-#[derive(Drop)]
+#[derive(Clone, Copy)]
 struct WordAt {
     end: usize,
     number: usize,
@@ -64,7 +64,7 @@ const LINKS: [Link; 3] = [Link::Mem, Link::Sub, Link::Sub];
 
 pub fn link(s: &[u8], at: usize) -> LinkAt
     ensures value { result ≡ link_at s.now (read_link_word (drop at s.now)) }
-    ensures s_value { s.now ≡ s.now }
+    ensures s_unchanged { s.exit.now ≡ s.entry.now }
 {
     let first = word(s, at, b"eq");
     if first <= s.len() {
@@ -91,7 +91,7 @@ const ARROWS: [Arrow; 7] = [
 
 pub fn arrow(s: &[u8], at: usize) -> ArrowAt
     ensures value { result ≡ arrow_at s.now (read_arrow_word (drop at s.now)) }
-    ensures s_value { s.now ≡ s.now }
+    ensures s_unchanged { s.exit.now ≡ s.entry.now }
 {
     let w = which(s, at, 2, b"svsimvmistmt");
     let n = w.number;
@@ -116,7 +116,7 @@ const RULES: [Rule; 12] = [
 
 pub fn rule(s: &[u8], at: usize) -> RuleAt
     ensures value { result ≡ rule_at s.now (read_rule (drop at s.now)) }
-    ensures s_value { s.now ≡ s.now }
+    ensures s_unchanged { s.exit.now ≡ s.entry.now }
 {
     let first = word(s, at, b"refl");
     if first <= s.len() {
@@ -135,7 +135,7 @@ const SIGNS: [Sign; 3] = [Sign::Positive, Sign::Negative, Sign::Negative];
 
 pub fn sign(s: &[u8], at: usize) -> SignAt
     ensures value { result ≡ sign_at s.now (read_sign (drop at s.now)) }
-    ensures s_value { s.now ≡ s.now }
+    ensures s_unchanged { s.exit.now ≡ s.entry.now }
 {
     let w = which(s, at, 1, b"+-");
     let n = w.number;

@@ -9,7 +9,7 @@ pub const HEAD: usize = 3;
 // The place after the word w, if it stands at the place `at`.
 pub fn word(s: &[u8], at: usize, w: &[u8]) -> usize
     ensures value { result ≡ end_of s.now (strip w.now (drop at s.now)) }
-    ensures s_value { (s.now ≡ s.now) × (w.now ≡ w.now) }
+    ensures s_unchanged { (s.exit.now ≡ s.entry.now) × (w.exit.now ≡ w.entry.now) }
 {
     let n = s.len();
     if w.len() == 0 {
@@ -75,7 +75,7 @@ fn ahead(s: &[u8], at: usize, w: &[u8]) -> usize
 // The place after the bytes w, if they stand at the place `at`: as `word`, for many bytes.
 pub fn prefix(s: &[u8], at: usize, w: &[u8]) -> usize
     ensures value { result ≡ end_of s.now (strip w.now (drop at s.now)) }
-    ensures s_value { (s.now ≡ s.now) × (w.now ≡ w.now) }
+    ensures s_unchanged { (s.exit.now ≡ s.entry.now) × (w.exit.now ≡ w.entry.now) }
 {
     let i = ahead(s, at, w);
     word(s, at + i, &w[i..])
@@ -84,7 +84,7 @@ pub fn prefix(s: &[u8], at: usize, w: &[u8]) -> usize
 // Whether a closing bracket stands at the place.
 pub fn closes(s: &[u8], at: usize) -> bool
     ensures value { result ≡ closes_at s.now at }
-    ensures s_value { s.now ≡ s.now }
+    ensures s_unchanged { s.exit.now ≡ s.entry.now }
 {
     if at >= s.len() {
         return false;
@@ -98,7 +98,7 @@ pub fn closes(s: &[u8], at: usize) -> bool
 // The byte between an opening bracket and a space, or 0.
 pub fn letter(s: &[u8], at: usize) -> u8
     ensures value { result ≡ letter_at s.now at }
-    ensures s_value { s.now ≡ s.now }
+    ensures s_unchanged { s.exit.now ≡ s.entry.now }
 {
     let n = s.len();
     if n < HEAD {

@@ -1,4 +1,6 @@
 // One text or two as a whole: their size, their first line, and what stands from a place on.
+#![tactic(auto)]
+
 ghost use Rattle.std.specs.Prelude.{◌+◌, ◌≤◌, ◌≡◌, true, length, drop};
 ghost use Rattle.text.specs.Size.{line_count, line_end_count, line_length, first_line, part_at};
 ghost use Rattle.text.specs.Split.{too_large};
@@ -61,8 +63,8 @@ fn line_length(text: &[u8]) -> usize
 
 // The bytes of the first line; none, which are no form, where the text ends before the line does.
 pub fn first_line(text: &[u8]) -> &[u8]
-    ensures result_value { result.now ≡ first_line text.now }
-    ensures text_value { text.now ≡ text.now }
+    ensures value { result.now ≡ first_line text.now }
+    ensures text_unchanged { text.exit.now ≡ text.entry.now }
 {
     let end = line_length(text);
     if end >= text.len() {
@@ -137,7 +139,7 @@ fn lines(text: &[u8]) -> usize
 // Check 1, by the figures given.
 pub fn too_large(text: &[u8], figures: Figures) -> bool
     ensures value { result ≡ too_large figures text.now }
-    ensures text_value { text.now ≡ text.now }
+    ensures text_unchanged { text.exit.now ≡ text.entry.now }
 {
     if text.len() > figures.bytes {
         return true;
@@ -147,8 +149,8 @@ pub fn too_large(text: &[u8], figures: Figures) -> bool
 
 // The part of the text from `start` on.
 pub fn clause_part(text: &[u8], start: usize) -> &[u8]
-    ensures result_value { result.now ≡ drop start text.now }
-    ensures text_value { text.now ≡ text.now }
+    ensures value { result.now ≡ drop start text.now }
+    ensures text_unchanged { text.exit.now ≡ text.entry.now }
 {
     let n = text.len();
     let from = if start < n { start } else { n };
@@ -157,8 +159,8 @@ pub fn clause_part(text: &[u8], start: usize) -> &[u8]
 
 // Of two texts in a row, what stands from `at` on in the one that holds it.
 pub fn part_at<'a>(base: &'a [u8], job: &'a [u8], at: usize) -> &'a [u8]
-    ensures result_value { result.now ≡ part_at base.now job.now at }
-    ensures base_value { (base.now ≡ base.now) × (job.now ≡ job.now) }
+    ensures value { result.now ≡ part_at base.now job.now at }
+    ensures base_unchanged { (base.exit.now ≡ base.entry.now) × (job.exit.now ≡ job.entry.now) }
 {
     let n = base.len();
     if at < n {

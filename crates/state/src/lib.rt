@@ -1,4 +1,6 @@
 // The reading state: the argument counts of the symbols and the places of the clauses. Checks 2 to 6 of a line.
+#![tactic(auto)]
+
 ghost use Rattle.std.specs.Prelude.{◌≡◌, take};
 ghost use Rattle.state.specs.State.{has_constant};
 ghost use Rattle.state.specs.ReadLine.{fresh_state, clause_failure, step_failure, failure_of, seen_at, placed, byte_of};
@@ -48,7 +50,7 @@ pub struct HeldState {
 }
 
 // Checks 2 to 6 of a line: the number of the first that fails, or 0; the line as it was read.
-#[derive(Drop)]
+#[derive(Clone, Copy)]
 pub struct Seen {
     pub failure: usize,
     pub line: LineAt,
@@ -56,7 +58,7 @@ pub struct Seen {
 
 // What a line that passes adds: a symbol's argument count; or a clause's place, number of literals and width, and the number of in lines
 // with it.
-#[derive(Drop)]
+#[derive(Clone, Copy)]
 pub struct Added {
     pub symbol: bool,
     pub k: u8,
@@ -84,7 +86,7 @@ pub fn fresh() -> HeldState
 // Whether some symbol takes no terms.
 fn has_constant(table: &[u8]) -> bool
     ensures value { result ≡ has_constant table.now }
-    ensures table_value { table.now ≡ table.now }
+    ensures table_unchanged { table.exit.now ≡ table.entry.now }
 {
     let mut i = 0;
     while i < table.len() {
@@ -98,8 +100,8 @@ fn has_constant(table: &[u8]) -> bool
 
 // The argument counts of the first `symbols` symbols.
 fn table(counts: &[u8], symbols: usize) -> &[u8]
-    ensures result_value { result.now ≡ take symbols counts.now }
-    ensures counts_value { counts.now ≡ counts.now }
+    ensures value { result.now ≡ take symbols counts.now }
+    ensures counts_unchanged { counts.exit.now ≡ counts.entry.now }
 {
     if symbols >= counts.len() {
         return counts;
@@ -110,7 +112,7 @@ fn table(counts: &[u8], symbols: usize) -> &[u8]
 // Whether some symbol of those held takes no terms.
 pub fn constant_held(counts: &[u8], symbols: usize) -> bool
     ensures value { result ≡ has_constant (take symbols counts.now) }
-    ensures counts_value { counts.now ≡ counts.now }
+    ensures counts_unchanged { counts.exit.now ≡ counts.entry.now }
 {
     has_constant(table(counts, symbols))
 }
@@ -182,7 +184,7 @@ pub fn see(
 ) -> Seen
     ensures value { result ≡ seen_at figures.depth counts.now symbols clauses inputs text.now }
     ensures sees { Sees figures.depth counts.now symbols clauses inputs text.now result }
-    ensures counts_value { (counts.now ≡ counts.now) × (text.now ≡ text.now) }
+    ensures counts_unchanged { (counts.exit.now ≡ counts.entry.now) × (text.exit.now ≡ text.entry.now) }
 {
     let declared = table(counts, symbols);
     let l = line(text, declared, figures.depth);

@@ -1,5 +1,7 @@
 // One line of the reading: the first of checks 2 to 11 that it fails, the parents that it uses, and what is asked where the base ends and
 // the job begins.
+#![tactic(auto)]
+
 ghost use Rattle.std.specs.Prelude.{◌-◌, ◌≡◌, take};
 ghost use Rattle.logic.specs.StepChecks.{judged_number};
 ghost use Rattle.text.specs.Size.{part_at};
@@ -105,7 +107,7 @@ pub fn failing<'a>(
         widths.now own line.now seen }
     ensures first_failing { FirstFailing depth (part_at base.now job.now) starts.now literals.now
         widths.now own line.now seen result }
-    ensures base_value { (base.now ≡ base.now) × (job.now ≡ job.now) × (line.now ≡ line.now) }
+    ensures base_unchanged { (base.exit.now ≡ base.entry.now) × (job.exit.now ≡ job.entry.now) × (line.exit.now ≡ line.entry.now) }
 {
     let failure = seen.failure;
     if failure != 0 {
@@ -155,7 +157,7 @@ pub fn seam(
     job: &[u8],
 ) -> usize
     ensures value { result ≡ seam_failure figures (take symbols counts.now) base at lines job.now }
-    ensures counts_value { (counts.now ≡ counts.now) × (job.now ≡ job.now) }
+    ensures counts_unchanged { (counts.exit.now ≡ counts.entry.now) × (job.exit.now ≡ job.entry.now) }
 {
     if at != base {
         return 0;

@@ -1,5 +1,6 @@
 // The answer to a text, or to a base and a job: the lines are read and judged one after the other, and where none fails the clauses are
 // counted.
+#![tactic(auto)]
 
 ghost use Rattle.std.specs.Prelude.{◌+◌, ◌≤◌, min, ◌≡◌, false, []};
 ghost use Rattle.text.specs.Figures.{office, UpToOffice};
@@ -140,7 +141,7 @@ pub fn read_job<'a>(base: &'a [u8], job: &'a [u8]) -> JobRead
     ensures verdict_value { result.answer.verdict ≡ verdict office (jointly office base.now job.now) }
     ensures rests_value { named result.answer.rests ≡ rests office (jointly office base.now job.now) }
     ensures stops_at { StopsAt office base.now job.now result.state result.at }
-    ensures base_value { (base.now ≡ base.now) × (job.now ≡ job.now) }
+    ensures base_unchanged { (base.exit.now ≡ base.entry.now) × (job.exit.now ≡ job.entry.now) }
 {
     let figures = Figures {
         bytes: BYTES,
@@ -165,7 +166,7 @@ pub fn check_job<'a>(base: &'a [u8], job: &'a [u8]) -> Answer
     ensures rests_value { named result.rests ≡ rests office (jointly office base.now job.now) }
     ensures job_means { JobMeans office base.now job.now result.verdict (named result.rests) }
     ensures job_guarantee { JobGuarantee office base.now job.now result.verdict (named result.rests) }
-    ensures base_value { (base.now ≡ base.now) × (job.now ≡ job.now) }
+    ensures base_unchanged { (base.exit.now ≡ base.entry.now) × (job.exit.now ≡ job.entry.now) }
 {
     let read = read_job(base, job);
     read.answer
@@ -177,7 +178,7 @@ pub fn check(text: &[u8]) -> Answer
     ensures rests_value { named result.rests ≡ rests office text.now }
     ensures means { Means office text.now result.verdict (named result.rests) }
     ensures guarantee { Guarantee office text.now result.verdict (named result.rests) }
-    ensures text_value { text.now ≡ text.now }
+    ensures text_unchanged { text.exit.now ≡ text.entry.now }
 {
     check_job(text, &text[0..0])
 }
