@@ -61,19 +61,19 @@ result_complete d a none f rest = on_test (λ (r : Reader Result). r rest ≡ go
 -- Each word of a table is read as itself.
 link_kind_lem : (d : ℕ) (l : Link) (bs : List ℕ) → read_kind d (word (link_word l) bs) ≡ read_link d l bs
 unfolding read_kind one_of strip
-link_kind_lem d l bs = elim l [ Eq ↦ refl | Mem ↦ refl | Sub ↦ refl ]
+link_kind_lem d l bs = elim l as (λ k. read_kind d (word (link_word k) bs) ≡ read_link d k bs) [ Eq ↦ refl | Mem ↦ refl | Sub ↦ refl ]
 
 arrow_kind_lem : (d : ℕ) (a : Arrow) (bs : List ℕ) → read_kind d (word (arrow_word a) bs) ≡ read_method d a bs
 unfolding read_kind one_of strip
-arrow_kind_lem d a bs = elim a [ Sv ↦ refl | Si ↦ refl | Mv ↦ refl | Mi ↦ refl | St ↦ refl | Mt ↦ refl ]
+arrow_kind_lem d a bs = elim a as (λ k. read_kind d (word (arrow_word k) bs) ≡ read_method d k bs) [ Sv ↦ refl | Si ↦ refl | Mv ↦ refl | Mi ↦ refl | St ↦ refl | Mt ↦ refl ]
 
 pub sign_complete : Complete (λ s. word (sign_word s)) (λ _. Unit {0}) read_sign
 unfolding read_sign one_of strip
-sign_complete s _ rest = elim s [ Positive ↦ refl | Negative ↦ refl ]
+sign_complete s _ rest = elim s as (λ k. read_sign (word (sign_word k) rest) ≡ got k rest) [ Positive ↦ refl | Negative ↦ refl ]
 
 pub rule_complete : Complete (λ r. word (rule_word r)) (λ _. Unit {0}) read_rule
 unfolding read_rule one_of strip
-rule_complete r _ rest = elim r [ Refl ↦ refl | Res ↦ refl | Fac ↦ refl | Par ↦ refl | Acy ↦ refl | Tra ↦ refl | Inc ↦ refl | Inh ↦ refl | Inp ↦ refl | Out ↦ refl | Sca ↦ refl | Eli ↦ refl ]
+rule_complete r _ rest = elim r as (λ k. read_rule (word (rule_word k) rest) ≡ got k rest) [ Refl ↦ refl | Res ↦ refl | Fac ↦ refl | Par ↦ refl | Acy ↦ refl | Tra ↦ refl | Inc ↦ refl | Inh ↦ refl | Inp ↦ refl | Out ↦ refl | Sca ↦ refl | Eli ↦ refl ]
 
 part_complete : (d : ℕ) (p : Part) → T (formed_part d p) → (rest : List ℕ) → read_part d (arrow_of p) (put_part p rest) ≡ got p rest
 unfolding read_part strip put_part formed_part

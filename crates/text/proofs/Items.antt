@@ -33,7 +33,7 @@ terms d = record { put_empty = λ _. refl; put_more = λ _ _ _. refl; formed_emp
 
 pub literals : (d : ℕ) → Items [] ◌∷◌ put_literal put_literals (λ l. T (formed_literal d l)) (λ c. T (formed_clause d c))
 unfolding put_literals formed_clause
-literals d = record { put_empty = λ _. refl; put_more = λ _ _ _. refl; formed_empty = tt; formed_more = λ l c. T_and (formed_literal d l) (formed_clause d c); induct = λ P e m c. elim c [ [] ↦ e | l ∷ (ls → h) ↦ m l ls h ] }
+literals d = record { put_empty = λ _. refl; put_more = λ _ _ _. refl; formed_empty = tt; formed_more = λ l c. T_and (formed_literal d l) (formed_clause d c); induct = λ P e m c. elim c as P [ [] ↦ e | l ∷ (ls → h) ↦ m l ls h ] }
 
 module _ {A S : Type 0} {empty : S} {more : A → S → S} {put : A → Writer} {puts : S → Writer} {F : A → Type 0} {G : S → Type 0} (I : Items empty more put puts F G) {read : Reader A} (sound : Sound put F read) where
   pub items_sound : (k : ℕ) → Sound (λ s. puts s ∘ word ")") G (read_items empty more read k)

@@ -58,16 +58,16 @@ unfolding put_number
 number_plain n = digits_plain n n
 
 pub sign_plain : (s : Sign) → Plain (word (sign_word s))
-sign_plain s = plain (sign_word s) (elim s [ Positive ↦ tt | Negative ↦ tt ])
+sign_plain s = plain (sign_word s) (elim s as (λ k. T (unbroken (bytes (sign_word k)))) [ Positive ↦ tt | Negative ↦ tt ])
 
 pub link_plain : (l : Link) → Plain (word (link_word l))
-link_plain l = plain (link_word l) (elim l [ Eq ↦ tt | Mem ↦ tt | Sub ↦ tt ])
+link_plain l = plain (link_word l) (elim l as (λ k. T (unbroken (bytes (link_word k)))) [ Eq ↦ tt | Mem ↦ tt | Sub ↦ tt ])
 
 pub arrow_plain : (a : Arrow) → Plain (word (arrow_word a))
-arrow_plain a = plain (arrow_word a) (elim a [ Sv ↦ tt | Si ↦ tt | Mv ↦ tt | Mi ↦ tt | St ↦ tt | Mt ↦ tt ])
+arrow_plain a = plain (arrow_word a) (elim a as (λ k. T (unbroken (bytes (arrow_word k)))) [ Sv ↦ tt | Si ↦ tt | Mv ↦ tt | Mi ↦ tt | St ↦ tt | Mt ↦ tt ])
 
 pub rule_plain : (r : Rule) → Plain (word (rule_word r))
-rule_plain r = plain (rule_word r) (elim r [ Refl ↦ tt | Res ↦ tt | Fac ↦ tt | Par ↦ tt | Acy ↦ tt | Tra ↦ tt | Inc ↦ tt | Inh ↦ tt | Inp ↦ tt | Out ↦ tt | Sca ↦ tt | Eli ↦ tt ])
+rule_plain r = plain (rule_word r) (elim r as (λ k. T (unbroken (bytes (rule_word k)))) [ Refl ↦ tt | Res ↦ tt | Fac ↦ tt | Par ↦ tt | Acy ↦ tt | Tra ↦ tt | Inc ↦ tt | Inh ↦ tt | Inp ↦ tt | Out ↦ tt | Sca ↦ tt | Eli ↦ tt ])
 
 space : Plain (word " ")
 space = plain " " tt

@@ -246,7 +246,7 @@ clean_atom (arrows o p) = elim (arrow_of p) as (λ a. Clean (node (texts (bytes 
 
 pub clean_literal : (l : Literal) → Clean (tree_literal l)
 unfolding tree_literal texts
-clean_literal (lit s a) = elim s [ Positive ↦ (tt, (tt, (tt, (clean_atom a, tt)))) | Negative ↦ (tt, (tt, (tt, (clean_atom a, tt)))) ]
+clean_literal (lit s a) = elim s as (λ k. Clean (tree_literal (lit k a))) [ Positive ↦ (tt, (tt, (tt, (clean_atom a, tt)))) | Negative ↦ (tt, (tt, (tt, (clean_atom a, tt)))) ]
 
 pub clean_literals : (c : Clause) → CleanIn (tree_literals c)
 unfolding tree_literals
