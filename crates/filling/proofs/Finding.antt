@@ -73,15 +73,15 @@ alike_turn x y w f f' qx ry ex ey h (there {x = a} t v e p q z) l = there t (λ 
 -- Brackets that are no terms.
 link_plain : (l : Link) (ts : Trees) → applied (texts (bytes (link_word l)) ts) ≡ false
 unfolding texts
-link_plain l ts = elim l [ Eq ↦ refl | Mem ↦ refl | Sub ↦ refl ]
+link_plain l ts = elim l as (λ k. applied (texts (bytes (link_word k)) ts) ≡ false) [ Eq ↦ refl | Mem ↦ refl | Sub ↦ refl ]
 
 arrow_plain : (a : Arrow) (ts : Trees) → applied (texts (bytes (arrow_word a)) ts) ≡ false
 unfolding texts
-arrow_plain a ts = elim a [ Sv ↦ refl | Si ↦ refl | Mv ↦ refl | Mi ↦ refl | St ↦ refl | Mt ↦ refl ]
+arrow_plain a ts = elim a as (λ k. applied (texts (bytes (arrow_word k)) ts) ≡ false) [ Sv ↦ refl | Si ↦ refl | Mv ↦ refl | Mi ↦ refl | St ↦ refl | Mt ↦ refl ]
 
 pub sign_plain : (g : Sign) (ts : Trees) → applied (texts (bytes (sign_word g)) (byte 32 ts)) ≡ false
 unfolding texts
-sign_plain g ts = elim g [ Positive ↦ refl | Negative ↦ refl ]
+sign_plain g ts = elim g as (λ k. applied (texts (bytes (sign_word k)) (byte 32 ts)) ≡ false) [ Positive ↦ refl | Negative ↦ refl ]
 
 module _ (σ : Substitution) (u : Term) where
   pub in_bracket : (ts : Trees) → applied ts ≡ false → (k : ℕ) → find_tree (trees σ) (tree_term u) (node ts) k ≡ map_found node (λ r. 41 ∷ r) (find_trees (trees σ) (tree_term u) ts k)

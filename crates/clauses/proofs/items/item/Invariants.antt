@@ -1,0 +1,12 @@
+use mathlib.Core.Path.{◌≡◌}
+use mathlib.Core.List.{[], ◌∷◌}
+use lib.ListN.{drop}
+use Rattle.text.specs.Places.{end_of}
+use Rattle.text.specs.Access.{to_item}
+use Rattle.clauses.proofs.items.item.Given as goal
+
+abbrev pub invariant-loop-left : goal.invariant-loop-left
+invariant-loop-left l = (end_of l.s (to_item l.n (drop l.at l.s)) ≡ end_of l.s (to_item left (drop l.left l.s))) × (l.place ≡ 32 ∷ [])
+
+abbrev pub decreases-loop-left : goal.decreases-loop-left
+decreases-loop-left l = left

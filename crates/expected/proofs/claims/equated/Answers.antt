@@ -1,0 +1,8 @@
+use mathlib.Core.Path.{refl}
+use Rattle.filling.specs.Claims.{linked_at, equated_at}
+use Rattle.clauses.specs.Shapes.{strip_at}
+use Rattle.expected.proofs.claims.equated.Goals as goal
+
+pub returns : goal.returns
+unfolding equated_at linked_at strip_at
+returns c = (rw (c.word-2.ensures.value, c.filled-right.ensures, c.word.ensures.value, c.filled-left.ensures, c.word-open.ensures.value, c.begin.ensures.value), ((refl, refl), (refl, refl)))

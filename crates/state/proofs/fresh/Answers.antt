@@ -1,0 +1,7 @@
+use Rattle.state.specs.ReadLine.{fresh_state}
+use Rattle.state.proofs.Held.{fresh_begins}
+use Rattle.state.proofs.fresh.Goals as goal
+
+pub returns-clause-begins : goal.returns-clause-begins
+unfolding fresh_state
+returns-clause-begins c = fresh_begins
