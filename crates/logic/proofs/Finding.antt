@@ -40,7 +40,7 @@ module _ (σ : Substitution) (u : Term) where
     found_replaced (var n) zero e = at_once e
     found_replaced (var n) (suc k) e = not_past e
     found_replaced (app f ts) zero e = at_once e
-    found_replaced (app f ts) (suc k) e = found_map (app f) (find_terms σ u ts k) e (λ us e₁ e₂. rw (← e₂) (Replaced.inside (founds_replaced ts k e₁)))
+    found_replaced (app f ts) (suc k) e = found_map _ (find_terms σ u ts k) e (λ us e₁ e₂. rw (← e₂) (Replaced.inside (founds_replaced ts k e₁)))
 
     founds_replaced : {s : Term} {us : Terms} (ts : Terms) (k : ℕ) → find_terms σ u ts k ≡ found s us → Replaced s u (fills σ ts) us
     founds_replaced nil k e = not_past e
@@ -103,7 +103,7 @@ module _ (γ σ : Substitution) (u : Term) where
     find_fill (var n) zero = refl
     find_fill (var n) (suc k) = refl
     find_fill (app f ts) zero = ap (λ us. found (app f us) (fill γ u)) (sym (fills_fills γ σ ts))
-    find_fill (app f ts) (suc k) = ap (map_search (app f)) (finds_fill ts k) ∙ map_search_lem γ (app f) (app f) (fills γ) (fill γ) (λ us. refl) (find_terms σ u ts k)
+    find_fill (app f ts) (suc k) = ap (map_search _) (finds_fill ts k) ∙ map_search_lem γ _ _ (fills γ) (fill γ) (λ us. refl) (find_terms σ u ts k)
 
     finds_fill : (ts : Terms) (k : ℕ) → find_terms (compose γ σ) (fill γ u) ts k ≡ fill_search γ (fills γ) (find_terms σ u ts k)
     finds_fill nil k = refl
