@@ -51,7 +51,7 @@ module _ (st : State) (line : ℕ) (r : Reading) (rs : List Reading) (a : T (is_
 all_ended : (F : Figures) (st : State) (line : ℕ) (raws : List Raw) → T (is_accepted (read_on st line (map (read_raw F.depth) raws))) → AllEnded raws
 unfolding AllEnded read_raw failure
 all_ended F st line [] a = tt
-all_ended F st line (ended w ∷ raws) a = all_ended F _ _ raws (accepted_on st line (read_raw F.depth (ended w)) (map (read_raw F.depth) raws) a)
+all_ended F st line (ended w ∷ raws) a = all_ended F (after st (read_raw F.depth (ended w))) (suc line) raws (accepted_on st line (read_raw F.depth (ended w)) (map (read_raw F.depth) raws) a)
 all_ended F st line (unended w ∷ raws) a = absurd (omega (arith, passes_first st line no_form (map (read_raw F.depth) raws) a))
 
 read_append : (st : State) (line : ℕ) (rs qs : List Reading) → T (is_accepted (read_on st line rs)) → read_on st line (rs ++ qs) ≡ read_on (state_after st rs) (line + length rs) qs
