@@ -11,9 +11,9 @@ returns-then-end-text-clause-value c =
 pub slice_bounds-result-end-2 : goal.slice_bounds-result-end-2
 slice_bounds-result-end-2 c =
     let text = c.args.text.now in
-    omega (arith, c.if1.false, length-take c.line-length.result text)
+    omega (arith, c.if-end-text.false, length-take c.line_length-end.result text)
 
 pub returns-clause-value : goal.returns-clause-value
 returns-clause-value c =
     let text = c.args.text.now in
-    let e = c.line-length.ensures in ap (λ n. take n text) e ∙ sym (bytes_ended text (omega (arith, e, c.if1.false)))
+    let e = c.line_length-end.ensures in ap (λ n. take n text) e ∙ sym (bytes_ended text (omega (arith, e, c.if-end-text.false)))

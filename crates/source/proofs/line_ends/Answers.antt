@@ -1,4 +1,3 @@
-use Prim.Native.Nat.{◌-◌}
 use native.Mathlib.Omega.{arith}
 use Rattle.text.proofs.Sizes.{ends_most}
 use Rattle.source.proofs.line_ends.Goals as goal

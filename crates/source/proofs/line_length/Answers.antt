@@ -1,4 +1,3 @@
-use Prim.Native.Nat.{◌-◌}
 use native.Mathlib.Omega.{arith}
 use Rattle.text.proofs.Sizes.{length_here, length_further, length_over}
 use Rattle.source.proofs.line_length.Goals as goal

@@ -7,7 +7,6 @@ use Rattle.text.specs.Kinds.{kind_of}
 use Rattle.text.proofs.Tests.{T_and}
 use Rattle.text.proofs.KindBytes.{digit_kind, letter_kind, bracket_kind, other_kind}
 use Rattle.scan.proofs.kinds.kind.Goals as goal
-use Rattle.scan.proofs.kinds.kind.Goals.{In_default-1}
 
 pub returns-then-between : goal.returns-then-between
 returns-then-between c =
@@ -39,16 +38,12 @@ pub returns-in-40 : goal.returns-in-40
 returns-in-40 c = sym (bracket_kind (omega arith) (omega arith))
 
 -- Past the single numbers of the match, a byte that is no bracket is other.
-other : (c : In_default-1) → let b = c.args.b in (b ≡ 40 → ⊥) → (b ≡ 41 → ⊥) → 6 ≡ kind_of b
-other c p q =
-    sym (other_kind (sym c.between.ensures ∙ c.if-between.false)
-    (sym c.between-2.ensures ∙ c.if-between-2.false) (omega (arith, apart c.in_default-1.rest.0.0.1)))
-  where
-    apart : {b x y : ℕ} → ((b ≡ x) ⊎ (b ≡ y) → ⊥) → (b ≡ x → ⊥) × (b ≡ y → ⊥)
-    apart n = (λ e. n (inl e), λ e. n (inr e))
-
 pub returns-in_default : goal.returns-in_default
-returns-in_default c = other (goal.at.returns-in_default c).In_default-1 (omega arith) (omega arith)
+returns-in_default c =
+    sym (other_kind (sym c.between.ensures ∙ c.if-between.false) (sym c.between-2.ensures ∙ c.if-between-2.false)
+    (grind arith))
 
 pub returns-in_default-2 : goal.returns-in_default-2
-returns-in_default-2 c = other (goal.at.returns-in_default-2 c).In_default-1 (omega arith) (omega arith)
+returns-in_default-2 c =
+    sym (other_kind (sym c.between.ensures ∙ c.if-between.false) (sym c.between-2.ensures ∙ c.if-between-2.false)
+    (grind arith))

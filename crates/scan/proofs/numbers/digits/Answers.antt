@@ -1,4 +1,3 @@
-use Prim.Native.Nat.{◌-◌}
 use borrow.Author.Tests.{not-true, not-false}
 use lib.ListN.{get_or}
 use mathlib.Core.Bool.{true}

@@ -1,12 +1,12 @@
-use Prim.Native.Nat.{◌+◌, ◌-◌}
+use Prim.Native.Nat.{◌+◌}
 use lib.Dec.{T}
 use lib.ListN.{drop}
-use mathlib.Core.Logic.{⊎_elim}
 use mathlib.Core.Path.{◌≡◌, sym, ◌∙◌, ap₂, subst}
 use native.Mathlib.Omega.{arith}
 use Rattle.text.specs.Read.{strip}
 use Rattle.text.proofs.Places.{strip_more}
 use Rattle.scan.proofs.words.alike.Goals as goal
+use Rattle.scan.proofs.words.alike.Goals.{then-s-at, else-s-at}
 
 pub loop-k-init : goal.loop-k-init
 loop-k-init c =
@@ -23,7 +23,7 @@ loop-k-preserved c =
     let y = a.w.now in
     let i : a.at + l.k + 1 ≡ a.at + (l.k + 1) = omega arith in
     let j : a.from + l.k + 1 ≡ a.from + (l.k + 1) = omega arith in
-    (omega arith, ⊎_elim (λ w e. absurd (subst T (sym e ∙ w.1) tt)) (λ w e. l.invariant.1 (sym w.1 ∙ e) ∙ (strip_more x y (a.from + l.k) (a.at + l.k) (omega arith) (omega arith) (omega (arith, w.0.false)) ∙ ap₂ (λ m n. strip (drop m y) (drop n x)) j i)) c.if-s-at.branch-raw)
+    (omega arith, elim c.if-s-at.branch [ then-s-at w ↦ λ e. absurd (subst T (sym e ∙ w.same-is) tt) | else-s-at w ↦ λ e. l.invariant.1 (sym w.same-is ∙ e) ∙ (strip_more x y (a.from + l.k) (a.at + l.k) (omega arith) (omega arith) (omega (arith, w.if-s-at.false)) ∙ ap₂ (λ m n. strip (drop m y) (drop n x)) j i) ])
 
 pub returns : goal.returns
 returns c =
