@@ -130,6 +130,7 @@ module _ (depth : ℕ) where
     part_of : (used : Bool) → T (below (length cs) used n) → T used → PartOf depth p (get_or cs n [])
     unfolding below
     part_of true b u = let H = h (ltb→lt n (length cs) b) in record { rest = H.rest; written = H.written; formed = H.formed }
+    part_of false b u = elim u [ ]
 
     width_of : (used : Bool) → T (below (length cs) used n) → cond used z.width 0 ≡ width (parent_clause cs used n)
     unfolding below parent_clause width
