@@ -9,16 +9,16 @@ use Rattle.descent.proofs.held.Goals as goal
 -- `descent::held` meets its contract.
 pub returns-then-not-is_used : goal.returns-then-not-is_used
 unfolding held_parent
-returns-then-not-is_used c = let e : c.args.is-used ≡ false = not-true _ c.if-not-is_used.true-raw in rw e
+returns-then-not-is_used c = let e : c.args.is_used ≡ false = not-true _ c.if-not-is_used.true-raw in rw e
 
 pub returns-then-n-ge-LINES : goal.returns-then-n-ge-LINES
 unfolding held_parent
 returns-then-n-ge-LINES c =
-    let e : c.args.is-used ≡ true = not-false _ c.if-not-is_used.false-raw in
+    let e : c.args.is_used ≡ true = not-false _ c.if-not-is_used.false-raw in
     rw (e, le-ltb c.args.n office.lines c.if-n-ge-LINES.true)
 
 pub returns : goal.returns
 unfolding held_parent
 returns c =
-    let e : c.args.is-used ≡ true = not-false _ c.if-not-is_used.false-raw in
+    let e : c.args.is_used ≡ true = not-false _ c.if-not-is_used.false-raw in
     rw (e, lt-ltb c.args.n office.lines (omega arith))
