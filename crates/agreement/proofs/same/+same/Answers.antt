@@ -11,7 +11,7 @@ pub returns-then-index-a : goal.returns-then-index-a
 unfolding plain
 returns-then-index-a t c =
     let a = c.args in
-    c.same_entry.ensures ∙ ap (ends_of a.a.now a.b.now) (sym (at_first (plain a.line.now a.first.now) (plain a.line.now a.second.now) a.a.now a.b.now a.depth a.x a.y c.if-depth-eq0.false c.word-index.ensures.value c.if-index-a.true))
+    rw (at_first (plain a.line.now a.first.now) (plain a.line.now a.second.now) a.a.now a.b.now a.depth a.x a.y c.if-depth-eq0.false c.word-index.ensures.value c.if-index-a.true) c.same_entry.ensures
 
 pub returns-then-index-b : goal.returns-then-index-b
 unfolding plain

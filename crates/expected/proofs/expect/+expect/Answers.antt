@@ -1,7 +1,7 @@
 use Prim.Native.Nat.{◌-◌}
-use mathlib.Core.Path.{sym, ◌∙◌, ap}
+use mathlib.Core.Path.{◌∙◌}
 use lib.ListN.{length}
-use Rattle.filling.specs.Filled.{fill_item, replacing, ends_of}
+use Rattle.filling.specs.Filled.{fill_item, replacing}
 use Rattle.filling.proofs.Walk.{fill_shrinks, matching_shortens}
 use Rattle.filling.proofs.Loops.{ends_bad, fill_begins, loop_ends, part_less, part_again, byte_other, byte_closes, byte_again}
 use Rattle.filling.proofs.Items.{item_shallow, item_variable, item_shut, item_opens}
@@ -16,14 +16,14 @@ returns-then-w-eq0 t c =
 pub returns-then-at-w : goal.returns-then-at-w
 returns-then-at-w t c =
     let a = c.args in
-    c.reach.ensures.value ∙ hole_ends _ _ _ _ a.a.now a.rest.now _ _ a.w.depth a.w.at a.w.pos c.if-w-eq0.false c.if-at-w.true c.skip.ensures.value c.expect_filled-found.ensures.value
+    c.reach.ensures.value ∙ hole_ends a.line.now a.first.now a.b.now a.second.now a.a.now a.rest.now a.w.hole a.w.from a.w.depth a.w.at a.w.pos c.if-w-eq0.false c.if-at-w.true c.skip.ensures.value c.expect_filled-found.ensures.value
 
 pub returns-then-index-a : goal.returns-then-index-a
 unfolding replacing
 returns-then-index-a t c =
     let a = c.args in
     let f = replacing a.line.now a.first.now (length a.a.now - a.w.hole) a.b.now a.w.from a.second.now in
-    c.expect_entry.ensures.value ∙ ap (ends_of a.a.now a.rest.now) (sym (item_variable f a.a.now a.rest.now a.w.depth a.w.at a.w.pos c.if-w-eq0.false (hole_apart a.line.now a.first.now a.b.now a.second.now a.a.now a.rest.now a.w.hole a.w.from a.w.depth a.w.at a.w.pos c.if-at-w.false) c.word-index.ensures.value c.if-index-a.true))
+    rw (item_variable f a.a.now a.rest.now a.w.depth a.w.at a.w.pos c.if-w-eq0.false (hole_apart a.line.now a.first.now a.b.now a.second.now a.a.now a.rest.now a.w.hole a.w.from a.w.depth a.w.at a.w.pos c.if-at-w.false) c.word-index.ensures.value c.if-index-a.true) c.expect_entry.ensures.value
 
 pub returns-then-j-rest : goal.returns-then-j-rest
 returns-then-j-rest t c =
