@@ -12,7 +12,6 @@ use Rattle.agreement.proofs.same.same_entry.Goals as goal
 pub returns-then-end-a : goal.returns-then-end-a
 returns-then-end-a c =
     let a = c.args in
-    let g = fill_item (plain a.line.now a.second.now) a.depth in
     let x = find_index (entry_of a.line.now a.first.now) a.a.now a.x c.number-index.ensures.value c.past-end.ensures.value in
     ends_bad a.a.now a.b.now c.differ.ensures.value (both_lost _ x (omega arith))
 
