@@ -1,0 +1,14 @@
+use mathlib.Core.Path.{ap, ◌∙◌}
+use Rattle.text.specs.Figures.{office}
+use Rattle.meaning.specs.Answer.{verdict, rests}
+use Rattle.meaning.proofs.Guaranteed.{answered}
+use Rattle.meaning.proofs.Jobs.{jointly_nothing}
+use Rattle.verdict.proofs.check.Goals as goal
+
+-- `verdict::check` meets its contract: with no job, the text that is answered is the base.
+pub returns : goal.returns
+returns c =
+    let text = c.args.text.now in
+    let e = jointly_nothing office text in
+    let w = c.check_job.ensures in
+    answered office text _ _ (w.0 ∙ ap (verdict office) e) (w.1.0 ∙ ap (rests office) e)
