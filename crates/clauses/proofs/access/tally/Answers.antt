@@ -1,10 +1,9 @@
-use Prim.Native.Nat.{◌-◌}
-use mathlib.Core.Logic.{⊎_elim}
 use mathlib.Core.Path.{◌≡◌, refl, ◌∙◌, ap}
 use native.Mathlib.Omega.{arith}
 use Rattle.clauses.specs.Nearer.{tallied}
 use Rattle.clauses.proofs.Leaping.{tallied_more, tallied_other}
 use Rattle.clauses.proofs.access.tally.Goals as goal
+use Rattle.clauses.proofs.access.tally.Goals.{then-s-at, else-s-at}
 
 pub loop-k-init : goal.loop-k-init
 unfolding tallied
@@ -15,11 +14,11 @@ loop-k-preserved c =
     let a = c.args in
     let l = c.loop-k in
     let b = a.byte in
-    let s = a.s.now in (
-      omega arith,
-      ⊎_elim (λ w. omega (arith, w)) (λ w. omega (arith, w)) c.if-s-at.branch-raw,
-      ⊎_elim (λ w. omega (arith, w, l.invariant.2, tallied_more b s a.at l.k (omega (arith, w)))) (λ w. omega (arith, w, l.invariant.2, tallied_other b s a.at l.k (omega (arith, w.0.false)))) c.if-s-at.branch-raw,
-    )
+    let s = a.s.now in
+    elim c.if-s-at.branch [
+      | then-s-at w ↦ (omega arith, omega arith, omega (arith, tallied_more b s a.at l.k (omega arith)))
+      | else-s-at w ↦ (omega arith, omega arith, omega (arith, tallied_other b s a.at l.k w.if-s-at.false))
+    ]
 
 pub returns : goal.returns
 returns c =

@@ -1,4 +1,3 @@
-use Prim.Native.Nat.{◌-◌}
 use native.Mathlib.Omega.{arith}
 use Rattle.text.proofs.Places.{end_bad, end_at}
 use Rattle.text.proofs.Positions.{opening_none, opening_here, opening_other}

@@ -1,14 +1,16 @@
-use mathlib.Core.Path.{refl, ◌∙◌}
+use mathlib.Core.Path.{◌∙◌}
 use native.Mathlib.Omega.{arith}
 use lib.ListN.{drop}
 use Rattle.text.proofs.Positions.{item_first, item_later}
 use Rattle.clauses.proofs.items.item.Goals as goal
 
-pub loop-left-init : goal.loop-left-init
-loop-left-init c = (refl, refl)
-
 pub loop-left-preserved : goal.loop-left-preserved
-loop-left-preserved c = let l = c in (rw c.pass-place.ensures (l.loop-left.invariant.0 ∙ item_later l.args.s.now l.loop-left.place l.loop-left.left (omega arith)), l.loop-left.invariant.1)
+loop-left-preserved c =
+    let s = c.args.s.now in
+    let l = c.loop-left in
+    rw c.pass-place.ensures (l.invariant ∙ item_later s l.place l.left (omega arith))
 
 pub returns : goal.returns
-returns c = let l = c in rw (c.word.ensures.value, l.loop-left.invariant.0, l.loop-left.invariant.1, item_first (drop l.loop-left.place l.args.s.now) l.loop-left.left (omega arith))
+returns c =
+    let l = c.loop-left in
+    rw (c.word.ensures.value, l.invariant, item_first (drop l.place c.args.s.now) l.left (omega arith))

@@ -2,6 +2,6 @@ use mathlib.Core.Path.{refl}
 use Rattle.filling.specs.Filled.{ends_of}
 use Rattle.filling.proofs.compare.differ.Goals as goal
 
-pub returns-clause-clause_unchanged : goal.returns-clause-clause_unchanged
+pub returns-clause-value : goal.returns-clause-value
 unfolding ends_of
-returns-clause-clause_unchanged c = (refl, refl)
+returns-clause-value c = refl
