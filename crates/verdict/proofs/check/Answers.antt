@@ -11,4 +11,5 @@ returns c =
     let text = c.args.text.now in
     let e = jointly_nothing office text in
     let w = c.check_job.ensures in
-    answered office text _ _ (w.0 ∙ ap (verdict office) e) (w.1.0 ∙ ap (rests office) e)
+    let a = answered office text _ _ (w.verdict_value ∙ ap (verdict office) e) (w.rests_value ∙ ap (rests office) e) in
+    record { verdict_value = a.0; rests_value = a.1.0; means = a.1.1.0; guarantee = a.1.1.1.0; text_unchanged = a.1.1.1.1 }

@@ -1,6 +1,6 @@
 use mathlib.Core.Bool.{false}
 use mathlib.Core.List.{[]}
-use mathlib.Core.Path.{◌≡◌, refl}
+use mathlib.Core.Path.{◌≡◌}
 use native.Mathlib.Omega.{arith}
 use lib.ListN.{replicate}
 use Rattle.logic.proofs.Descending.{numbers_none}
@@ -18,7 +18,8 @@ unmarked = numbers_none office.lines _ (none_marked office.lines)
 pub verdict_on-stop-requires : goal.verdict_on-stop-requires
 verdict_on-stop-requires c = (record { bytes = omega arith; lines = omega arith; depth = omega arith }, unmarked)
 
-pub returns : goal.returns
-returns c =
-    let (a, h) = c.verdict_on-stop.ensures in
-    (a.is, (a.names, (h, (refl, refl))))
+pub returns-clause-verdict_value : goal.returns-clause-verdict_value
+returns-clause-verdict_value c = c.verdict_on-stop.ensures.answers.is
+
+pub returns-clause-rests_value : goal.returns-clause-rests_value
+returns-clause-rests_value c = c.verdict_on-stop.ensures.answers.names
