@@ -14,12 +14,19 @@ use Rattle.step.proofs.failing.Goals as goal
 promised : (depth : ℕ) (base job starts literals widths : List ℕ) (own : ℕ) (line : List ℕ) (seen : Seen) {r : ℕ} →
     let part = part_at base job in
     r ≡ failing_at depth part starts literals widths own line seen →
-    (r ≡ failing_at depth part starts literals widths own line seen)
-    × (FirstFailing depth part starts literals widths own line seen r × ((base ≡ base) × (job ≡ job) × (line ≡ line)))
+    record {
+      value : r ≡ failing_at depth part starts literals widths own line seen;
+      first_failing : FirstFailing depth part starts literals widths own line seen r;
+      base_unchanged : (base ≡ base) × (job ≡ job) × (line ≡ line);
+    }
 promised depth base job starts literals widths own line seen e =
     let part = part_at base job in
     let first = failing_first depth part starts literals widths own line seen in
-    (e, (subst (FirstFailing depth part starts literals widths own line seen) (sym e) first, (refl, refl, refl)))
+    record {
+      value = e;
+      first_failing = subst (FirstFailing depth part starts literals widths own line seen) (sym e) first;
+      base_unchanged = (refl, refl, refl);
+    }
 
 pub returns-then-failure-ne0 : goal.returns-then-failure-ne0
 unfolding failing_at
@@ -39,6 +46,4 @@ returns-in-Input c = promised _ _ _ _ _ _ _ _ _ (rw (eq-eqb _ 0 c.if-failure-ne0
 
 pub returns-in-By : goal.returns-in-By
 unfolding failing_at step_number
-returns-in-By c =
-    let s = c in
-    promised _ _ _ _ _ _ _ _ _ (rw (eq-eqb _ 0 s.if-failure-ne0.false, s.in-By.is, c.number.ensures, c.judged.ensures))
+returns-in-By c = promised _ _ _ _ _ _ _ _ _ (rw (eq-eqb _ 0 c.if-failure-ne0.false, c.in-By.is, c.number.ensures, c.judged.ensures))

@@ -4,7 +4,4 @@ use Rattle.step.proofs.judged.Goals as goal
 -- `step::judged` meets its contract.
 pub returns : goal.returns
 unfolding judged_at
-returns c =
-    let size = c in
-    let clause = size in
-    rw (c.judge.ensures.value, size.size_at-of_b.ensures, size.size_at-of_a.ensures, clause.clause_at-q.ensures, clause.clause_at-p.ensures)
+returns c = rw (c.judge.ensures.value, c.size_at-of_b.ensures, c.size_at-of_a.ensures, c.clause_at-q.ensures, c.clause_at-p.ensures)
