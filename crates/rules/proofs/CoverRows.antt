@@ -30,7 +30,6 @@ use Rattle.rules.proofs.TermsMeet.{missing, concluding}
 use Rattle.rules.proofs.Targets.{link_small, past_positive}
 use Rattle.rules.proofs.RowsMeet.{both_within, one_past, past_shape}
 use Rattle.rules.proofs.CoversMeet.{AtomAt, arrow_range, covers_meet}
-use Rattle.clauses.specs.Shapes.{within}
 use Rattle.rule_table.specs.Rows.{answer, row_at, found_by, resolved, agrees_by, factored}
 use Rattle.clauses.specs.Shapes.{negative_at}
 use Rattle.filling.specs.Covers.{covers_at}

@@ -38,7 +38,6 @@ use Rattle.rules.proofs.ParMeets.{par_meets}
 use Rattle.rules.proofs.Literals.{PartOf, without, at_here, at_none, at_filled, at_none_filled, place_here, place_past, part_others, same_place}
 use Rattle.rules.proofs.Concluded.{ClaimAt, Expects, concluded}
 use Rattle.rules.proofs.StepMeets.{Taken, taken, absent, take_at, TwoParents, given_over, stops}
-use Rattle.clauses.specs.Shapes.{within}
 use Rattle.rule_table.specs.Rows.{row_of, row_at, found_by, factored}
 use Rattle.rules.specs.Claim.{new_at, new_by, dropped_at, claim_at}
 use Rattle.clauses.specs.Shapes.{place_at}

@@ -111,6 +111,7 @@ fn settled(parents: bool, numbers: bool, answer: Judged) -> Judged
 }
 
 // The places of a list that fills a clause of this width: none where it has no variables.
+#[tactic(auto, unfolding(crate::specs::Judging::filling_places))]
 fn filling(width: usize, places: &[usize]) -> &[usize]
     ensures { result.now ≡ filling_places width places.now }
 {

@@ -1,4 +1,3 @@
-use Prim.Native.Nat.{◌-◌}
 use native.Mathlib.Omega.{arith}
 use Rattle.outcome.proofs.Zeros.{zeros_first, zeros_past, zeros_over, zeros_here, zeros_later}
 use Rattle.outcome.proofs.first_empty.Goals as goal

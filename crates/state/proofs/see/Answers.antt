@@ -22,8 +22,7 @@ seen-is depth counts symbols clauses inputs bytes t l r n = rw (n, r, l, t)
 pub returns : goal.returns
 returns c =
     let a = c.args in
-    let d = c in
-    let e = seen-is a.figures.depth a.counts.now a.symbols a.clauses a.inputs a.text.now d.table-declared.ensures.value
-    d.line-l.ensures.value c.has_constant-ready.ensures.value c.failure-failure.ensures in
+    let e = seen-is a.figures.depth a.counts.now a.symbols a.clauses a.inputs a.text.now c.table-declared.ensures.value
+    c.line-l.ensures.value c.has_constant-ready.ensures.value c.failure-failure.ensures in
     let w = and_so (Sees _ _ _ _ _ _) (line_seen _ _ _ _ _ _) e in
-    (e, (w.1, (refl, refl)))
+    record { value = e; sees = w.1; counts_unchanged = (refl, refl) }

@@ -4,5 +4,4 @@ use Rattle.state.proofs.step_failure.Goals as goal
 pub returns : goal.returns
 unfolding step_failure step_most step_bounds
 returns c =
-    let most = c in
-    rw (c.clause_failure.ensures, c.join-2.ensures, c.join.ensures, most.larger-most.ensures, most.larger.ensures)
+    rw (c.clause_failure.ensures, c.join-2.ensures, c.join.ensures, c.larger-most.ensures, c.larger.ensures)

@@ -3,7 +3,4 @@ use Rattle.reader.proofs.forms.step_head.Goals as goal
 
 pub returns : goal.returns
 unfolding head_at spaced_at
-returns c =
-    let b = c in
-    let r = b in
-    rw (c.spaced-k.ensures, c.spaced-j.ensures, b.spaced-b.ensures, b.spaced-i.ensures, b.spaced-a.ensures, r.rule-r.ensures.value)
+returns c = rw (c.spaced-k.ensures, c.spaced-j.ensures, c.spaced-b.ensures, c.spaced-i.ensures, c.spaced-a.ensures, c.rule-r.ensures.value)

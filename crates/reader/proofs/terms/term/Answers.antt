@@ -16,10 +16,10 @@ pub overflow_add-end : goal.overflow_add-end
 overflow_add-end c = omega (arith, ((closes_tells _ _ c.closes.ensures.value).0 c.if-closes.true).0)
 
 pub returns-then-closes : goal.returns-then-closes
-returns-then-closes c = let d = c in let a = d.args in let u = a.table.now in let s = a.s.now in let w = letter_tells _ _ d.letter-b.ensures.value in let f = d.number-f in let e = (closes_tells _ _ d.closes.ensures.value).0 d.if-closes.true in c.settle-then-closes.ensures ∙ ap (settled s (f.result.end + 1)) (d.counted.ensures ∙ ap (measured 1) (d.applied.ensures ∙ ap (applied_bounds u f.result.value) d.none-then-closes.ensures)) ∙ applied_term u s a.at a.depth d.if-depth-eq0.false ((w 118 (omega arith)).1 (λ q. omega (arith, q, d.if-b-eq102.true))) ((w 102 (omega arith)).0 d.if-b-eq102.true).1 f.ensures.0 (no_parts u s f.result.end (a.depth - 1) e.1 e.0)
+returns-then-closes c = let a = c.args in let u = a.table.now in let s = a.s.now in let w = letter_tells _ _ c.letter-b.ensures.value in let f = c.number-f in let e = (closes_tells _ _ c.closes.ensures.value).0 c.if-closes.true in c.settle-then-closes.ensures ∙ ap (settled s (f.result.end + 1)) (c.counted.ensures ∙ ap (measured 1) (c.applied.ensures ∙ ap (applied_bounds u f.result.value) c.none-then-closes.ensures)) ∙ applied_term u s a.at a.depth c.if-depth-eq0.false ((w 118 (omega arith)).1 (λ q. omega (arith, q, c.if-b-eq102.true))) ((w 102 (omega arith)).0 c.if-b-eq102.true).1 f.ensures.value (no_parts u s f.result.end (a.depth - 1) e.1 e.0)
 
 pub returns-then-b-eq102 : goal.returns-then-b-eq102
-returns-then-b-eq102 c = let d = c in let a = d.args in let u = a.table.now in let s = a.s.now in let w = letter_tells _ _ d.letter-b.ensures.value in let f = d.number-f in c.settle-then-b-eq102.ensures ∙ ap (settled s d.terms-parts.result.end) (d.counted-then-b-eq102.ensures ∙ ap (measured 1) d.applied-then-b-eq102.ensures) ∙ applied_term u s a.at a.depth d.if-depth-eq0.false ((w 118 (omega arith)).1 (λ q. omega (arith, q, d.if-b-eq102.true))) ((w 102 (omega arith)).0 d.if-b-eq102.true).1 f.ensures.0 d.terms-parts.ensures
+returns-then-b-eq102 c = let a = c.args in let u = a.table.now in let s = a.s.now in let w = letter_tells _ _ c.letter-b.ensures.value in let f = c.number-f in c.settle-then-b-eq102.ensures ∙ ap (settled s c.terms-parts.result.end) (c.counted-then-b-eq102.ensures ∙ ap (measured 1) c.applied-then-b-eq102.ensures) ∙ applied_term u s a.at a.depth c.if-depth-eq0.false ((w 118 (omega arith)).1 (λ q. omega (arith, q, c.if-b-eq102.true))) ((w 102 (omega arith)).0 c.if-b-eq102.true).1 f.ensures.value c.terms-parts.ensures
 
 pub returns-then-b-ne118 : goal.returns-then-b-ne118
 returns-then-b-ne118 c = let a = c.args in let u = a.table.now in let s = a.s.now in let w = letter_tells _ _ c.letter-b.ensures.value in c.settle-then-b-ne118.ensures ∙ other_term u s a.at _ a.depth ((w 118 (omega arith)).1 c.if-b-ne118.true) ((w 102 (omega arith)).1 c.if-b-eq102.false)
