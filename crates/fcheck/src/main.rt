@@ -1,27 +1,33 @@
 // Reads a text from standard input and prints the answer to it.
 #![tactic(auto)]
 
-use libc::STDIN_FILENO;
 use print::ROOM;
+use std::env::{Env, FillError};
 
 // The buffer has one byte more than a text may have.
-fn check_input() {
-    let mut text = io::large_buffer();
-    let mut failed = false;
-    let n = console::read_text(STDIN_FILENO, &mut text, &mut failed);
-    if failed {
-        console::complain(b"fcheck", b"standard input can't be read");
+fn check_input(rt: &HostRuntime) {
+    let mut text = [0u8; 65536];
+    let read = console::read_text(&mut rt.stdin(), &mut text);
+    if read.failure.is_some() {
+        complain(rt, b"standard input can't be read");
         return;
     }
     let mut lines = [0u8; ROOM];
-    if !console::print(verdict::check(&text[..n]), &mut lines) {
-        console::complain(b"fcheck", b"standard output can't be written");
+    let answer = verdict::check(&text[..read.bytes]);
+    if console::print(&mut rt.stdout(), answer, &mut lines).is_err() {
+        complain(rt, b"standard output can't be written");
     }
 }
 
+fn complain(rt: &HostRuntime, what: &[u8]) {
+    console::complain(&mut rt.stderr(), b"fcheck", what);
+}
+
 // Prints the help or the version, if it is asked for.
-fn told(argument: &[u8]) -> bool {
+fn told(rt: &HostRuntime, argument: &[u8]) -> bool {
     console::told(
+        &mut rt.stdout(),
+        &mut rt.stderr(),
         b"fcheck",
         b"usage: fcheck < TEXT
 Checks the F-logic derivation on standard input and prints the answer:
@@ -37,17 +43,19 @@ Checks the F-logic derivation on standard input and prints the answer:
 }
 
 // The first argument is the program's name. There are no others but these two.
-fn main() {
-    let count = os::arg_count();
-    if count < 2 {
-        check_input();
-        return;
-    }
-    let mut argument = io::buffer();
-    let n = os::arg(1, &mut argument);
-    if count > 2 || !told(&argument[..n]) {
-        console::complain(
-            b"fcheck",
+fn main(rt: HostRuntime) {
+    let mut argument = [0u8; 4096];
+    let asked = match rt.arg(1, &mut argument) {
+        Err(FillError::NotPresent) => {
+            check_input(&rt);
+            return;
+        }
+        Err(FillError::TooLong) => false,
+        Ok(n) => !console::has_argument(&rt, 2) && told(&rt, &argument[..n]),
+    };
+    if !asked {
+        complain(
+            &rt,
             b"the text is read from standard input, and there is no argument but --help and --version",
         );
     }
