@@ -2,12 +2,19 @@
 // bytes, the lowest first, and then its bytes, at most 65,536; a pair is two texts, the base first.
 #![tactic(auto)]
 
-ghost use Rattle.std.specs.Prelude.{◌<◌};
+ghost use Rattle.std.specs.Prelude.{◌<◌, IfSome};
 ghost use Rattle.io.specs.Counts.{IsPrefixLen};
 
-use libc::STDERR_FILENO;
 use meaning::Answer;
 use print::ROOM;
+use std::alloc::AllocError;
+use std::fs::File;
+use std::io;
+use std::io::Read;
+
+fn complain(rt: &HostRuntime, what: &[u8]) {
+    console::complain(&mut rt.stderr(), b"corpus", what);
+}
 
 fn wide(x: u8) -> usize
     ensures { result < 256 }
@@ -21,105 +28,102 @@ fn length_of(b: &[u8; 4]) -> usize {
 }
 
 // Prints an answer, and answers whether all was written.
-fn print(a: Answer) -> bool {
+fn print(rt: &HostRuntime, a: Answer) -> bool {
     let mut lines = [0u8; ROOM];
-    let done = console::print(a, &mut lines);
+    let done = console::print(&mut rt.stdout(), a, &mut lines).is_ok();
     if !done {
-        io::write_all(STDERR_FILENO, b"corpus: standard output can't be written\n");
+        complain(rt, b"standard output can't be written");
     }
     done
 }
 
-// Reads a text's length, and leaves in failed whether the file has ended.
-fn read_length(fd: i32, failed: &mut bool) -> usize {
+// Reads a text's length, if the file has not ended.
+fn read_length<R: Read>(rt: &HostRuntime, from: &mut R) -> Option<usize> {
     let mut head = [0u8; 4];
-    let got = io::read_full(fd, &mut head);
-    *failed = got != 4;
-    if got != 0 && got != 4 {
-        io::write_all(STDERR_FILENO, b"corpus: a length is cut short\n");
+    match console::read_text(from, &mut head).bytes {
+        4 => Some(length_of(&head)),
+        0 => None,
+        _ => {
+            complain(rt, b"a length is cut short");
+            None
+        }
     }
-    length_of(&head)
 }
 
-// Reads a text's length and then the text, answers how many bytes it has, and leaves in failed whether there is none.
-fn read_next(fd: i32, text: &mut [u8], failed: &mut bool) -> usize
-    ensures { IsPrefixLen result text.new }
+// Reads a text's length and then the text, and answers how many bytes it has, if there is one.
+fn read_next<R: Read>(rt: &HostRuntime, from: &mut R, text: &mut [u8]) -> Option<usize>
+    ensures { IfSome result (λ n. IsPrefixLen n text.new) }
 {
-    let n = read_length(fd, failed);
-    if *failed {
-        return 0;
-    }
-    *failed = true;
+    let n = read_length(rt, from)?;
     if n > text.len() {
-        io::write_all(STDERR_FILENO, b"corpus: a text is too long\n");
-        return 0;
+        complain(rt, b"a text is too long");
+        return None;
     }
-    let got = io::read_full(fd, &mut text[..n]);
+    let got = console::read_text(from, &mut text[..n]).bytes;
     if got != n {
-        io::write_all(STDERR_FILENO, b"corpus: a text is cut short\n");
-        return 0;
+        complain(rt, b"a text is cut short");
+        return None;
     }
-    *failed = false;
-    n
+    Some(n)
 }
 
 // The answer to the next text. Answers whether to go on.
-fn next_text(fd: i32) -> bool {
-    let mut text = io::large_buffer();
-    let mut failed = false;
-    let n = read_next(fd, &mut text, &mut failed);
-    if failed {
-        return false;
+fn next_text<R: Read>(rt: &HostRuntime, from: &mut R) -> bool {
+    let mut text = [0u8; 65536];
+    match read_next(rt, from, &mut text) {
+        Some(n) => print(rt, verdict::check(&text[..n])),
+        None => false,
     }
-    print(verdict::check(&text[..n]))
 }
 
 // The answer to a base and the next text as its job. Answers whether to go on.
-fn next_job(fd: i32, base: &[u8]) -> bool {
-    let mut job = io::large_buffer();
-    let mut failed = false;
-    let n = read_next(fd, &mut job, &mut failed);
-    if failed {
-        return false;
+fn next_job<R: Read>(rt: &HostRuntime, from: &mut R, base: &[u8]) -> bool {
+    let mut job = [0u8; 65536];
+    match read_next(rt, from, &mut job) {
+        Some(n) => print(rt, verdict::check_job(base, &job[..n])),
+        None => false,
     }
-    print(verdict::check_job(base, &job[..n]))
 }
 
 // The answer to the next pair. Answers whether to go on.
-fn next_pair(fd: i32) -> bool {
-    let mut base = io::large_buffer();
-    let mut failed = false;
-    let n = read_next(fd, &mut base, &mut failed);
-    if failed {
-        return false;
+fn next_pair<R: Read>(rt: &HostRuntime, from: &mut R) -> bool {
+    let mut base = [0u8; 65536];
+    match read_next(rt, from, &mut base) {
+        Some(n) => next_job(rt, from, &base[..n]),
+        None => false,
     }
-    next_job(fd, &base[..n])
 }
 
-fn next(fd: i32, pairs: bool) -> bool {
-    if pairs { next_pair(fd) } else { next_text(fd) }
+fn next<R: Read>(rt: &HostRuntime, from: &mut R, pairs: bool) -> bool {
+    if pairs {
+        next_pair(rt, from)
+    } else {
+        next_text(rt, from)
+    }
 }
 
 // A proved loop has to end, and nothing says that a file does, so the turns are counted.
-fn each(fd: i32, pairs: bool) {
-    let mut turns = u64::MAX;
-    while turns > 0 && next(fd, pairs) {
-        turns -= 1;
+fn each<R: Read>(rt: &HostRuntime, from: &mut R, pairs: bool) {
+    for _ in 0..u64::MAX {
+        if !next(rt, from, pairs) {
+            break;
+        }
     }
 }
 
 // All texts, or all pairs, of a file.
-fn answer_all(path: &[u8], pairs: bool) {
-    let fd = os::open_read(path);
-    if fd < 0 {
-        os::fail(path);
-        return;
+fn answer_all(rt: &HostRuntime, path: &str, pairs: bool) -> Result<(), AllocError> {
+    match File::open(rt, path) {
+        Ok(mut file) => {
+            each(rt, &mut file, pairs);
+            Ok(())
+        }
+        Err(e) => console::fail(rt.alloc(), &mut rt.stderr(), path.as_bytes(), e),
     }
-    each(fd, pairs);
-    libc::close(fd);
 }
 
-fn main() {
-    answer_all(b"corpus.bin", false);
-    answer_all(b"pairs.bin", true);
+fn main(rt: HostRuntime) -> io::Result<()> {
+    answer_all(&rt, "corpus.bin", false)?;
+    answer_all(&rt, "pairs.bin", true)?;
+    Ok(())
 }

@@ -1,64 +1,75 @@
 // Reads a base from the file that is named and a job from standard input, and prints the answer to the two.
 #![tactic(auto)]
 
+ghost use Rattle.std.specs.Prelude.{◌≡◌};
 ghost use Rattle.io.specs.Counts.{IsPrefixLen};
 
-use libc::{STDERR_FILENO, STDIN_FILENO};
+use console::TextRead;
 use print::ROOM;
+use std::alloc::AllocError;
+use std::env::{Env, FillError};
+use std::fs::File;
+use std::io;
+use std::io::{Error, Write};
+use std::str::from_utf8;
 
-// Says why the last call failed, and of what.
-fn fail(what: &[u8]) {
-    io::write_all(STDERR_FILENO, b"fjob: ");
-    os::fail(what);
+// Says why a call failed, and of what.
+fn fail(rt: &HostRuntime, what: &[u8], error: Error) -> Result<(), AllocError> {
+    let mut errors = rt.stderr();
+    let _ = errors.write_all(b"fjob: ");
+    console::fail(rt.alloc(), &mut errors, what, error)
 }
 
-// Reads the base, answers how many bytes it has, and leaves in failed whether it could not be opened or read, which it says.
-fn read_base(path: &[u8], base: &mut [u8], failed: &mut bool) -> usize
-    ensures { IsPrefixLen result base.new }
+fn complain(rt: &HostRuntime, what: &[u8]) {
+    console::complain(&mut rt.stderr(), b"fjob", what);
+}
+
+// Reads the base, and answers how many bytes it has, or why it could not be opened or read.
+fn read_base(rt: &HostRuntime, path: &str, base: &mut [u8]) -> TextRead
+    ensures { IsPrefixLen result.bytes base.new }
 {
-    let fd = os::open_read(path);
-    if fd < 0 {
-        fail(path);
-        *failed = true;
-        return 0;
+    match File::open(rt, path) {
+        Ok(mut file) => console::read_text(&mut file, base),
+        Err(e) => TextRead {
+            bytes: 0,
+            failure: Some(e),
+        },
     }
-    let n = console::read_text(fd, base, failed);
-    if *failed {
-        fail(path);
-    }
-    libc::close(fd);
-    n
 }
 
 // Reads the job and prints the answer.
-fn check_input(base: &[u8]) {
-    let mut job = io::large_buffer();
-    let mut failed = false;
-    let n = console::read_text(STDIN_FILENO, &mut job, &mut failed);
-    if failed {
-        console::complain(b"fjob", b"standard input can't be read");
+fn check_input(rt: &HostRuntime, base: &[u8]) {
+    let mut job = [0u8; 65536];
+    let read = console::read_text(&mut rt.stdin(), &mut job);
+    if read.failure.is_some() {
+        complain(rt, b"standard input can't be read");
         return;
     }
     let mut lines = [0u8; ROOM];
-    if !console::print(verdict::check_job(base, &job[..n]), &mut lines) {
-        console::complain(b"fjob", b"standard output can't be written");
+    let answer = verdict::check_job(base, &job[..read.bytes]);
+    if console::print(&mut rt.stdout(), answer, &mut lines).is_err() {
+        complain(rt, b"standard output can't be written");
     }
 }
 
 // The base, and then the job. Each buffer has one byte more than a text may have.
-fn check_over(path: &[u8]) {
-    let mut base = io::large_buffer();
-    let mut failed = false;
-    let n = read_base(path, &mut base, &mut failed);
-    if failed {
-        return;
+fn check_over(rt: &HostRuntime, path: &str) -> Result<(), AllocError> {
+    let mut base = [0u8; 65536];
+    let read = read_base(rt, path, &mut base);
+    match read.failure {
+        Some(e) => fail(rt, path.as_bytes(), e),
+        None => {
+            check_input(rt, &base[..read.bytes]);
+            Ok(())
+        }
     }
-    check_input(&base[..n]);
 }
 
 // Prints the help or the version, if it is asked for.
-fn told(argument: &[u8]) -> bool {
+fn told(rt: &HostRuntime, argument: &[u8]) -> bool {
     console::told(
+        &mut rt.stdout(),
+        &mut rt.stderr(),
         b"fjob",
         b"usage: fjob BASE < JOB
 Checks an F-logic derivation in two parts, the base in the file BASE and the job on standard input.
@@ -72,22 +83,35 @@ A base in a file of such a name is given with its folder, as ./--help.
     )
 }
 
+// The answer to the argument. A path is UTF-8.
+fn answer(rt: &HostRuntime, argument: &[u8]) -> Result<(), AllocError> {
+    if told(rt, argument) {
+        return Ok(());
+    }
+    match from_utf8(argument) {
+        Ok(path) => check_over(rt, path),
+        Err(_) => {
+            let mut errors = rt.stderr();
+            let _ = errors.write_all(b"fjob: ");
+            console::complain(&mut errors, argument, b"the name of the file is not UTF-8");
+            Ok(())
+        }
+    }
+}
+
 // The first argument is the program's name, the second the base's. A name that is too long for a path is no file's.
-fn main() {
-    if os::arg_count() != 2 {
-        console::complain(
-            b"fjob",
+fn main(rt: HostRuntime) -> io::Result<()> {
+    let mut argument = [0u8; 4096];
+    if !console::has_argument(&rt, 1) || console::has_argument(&rt, 2) {
+        complain(
+            &rt,
             b"the base's file is the only argument, and the job is read from standard input (fjob --help)",
         );
-        return;
+        return Ok(());
     }
-    let mut path = io::buffer();
-    let n = os::arg(1, &mut path);
-    if os::errno() != 0 {
-        fail(b"BASE");
-        return;
+    match rt.arg(1, &mut argument) {
+        Ok(n) => answer(&rt, &argument[..n])?,
+        Err(_) => complain(&rt, b"BASE: File name too long"),
     }
-    if !told(&path[..n]) {
-        check_over(&path[..n]);
-    }
+    Ok(())
 }
