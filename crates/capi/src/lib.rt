@@ -10,6 +10,7 @@ ghost use Rattle.capi.specs.Numbered.{word_number, first_number, second_number, 
 use meaning::Verdict;
 use text::LINES;
 
+#[tactic(auto, unfolding(crate::specs::Numbered::word_number))]
 fn word(v: Verdict) -> u32
     ensures { result ≡ word_number v }
 {
@@ -20,6 +21,7 @@ fn word(v: Verdict) -> u32
     }
 }
 
+#[tactic(auto, unfolding(crate::specs::Numbered::first_number, meaning::specs::Means::numbers))]
 fn first_number(v: Verdict) -> usize
     ensures { result ≡ first_number v }
 {
@@ -30,6 +32,7 @@ fn first_number(v: Verdict) -> usize
     }
 }
 
+#[tactic(auto, unfolding(crate::specs::Numbered::second_number, meaning::specs::Means::numbers))]
 fn second_number(v: Verdict) -> usize
     ensures { result ≡ second_number v }
 {
