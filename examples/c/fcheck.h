@@ -1,4 +1,4 @@
-/* The answer to a text, from target/staticlib/libcapi.a (`rt staticlib capi`). docs/C-API.md says what a caller owes. */
+/* The answer to a text, from crates/capi/out/libcapi.a (`rt lib` in crates/capi). docs/C-API.md says what a caller owes. */
 #ifndef FCHECK_H
 #define FCHECK_H
 

@@ -1,17 +1,17 @@
-//! Links libcapi.a, from FCHECK_LIB_DIR or where `rt staticlib capi` writes it.
+//! Links libcapi.a, from FCHECK_LIB_DIR or where `rt lib` in crates/capi writes it.
 
 use std::env;
 use std::path::{Path, PathBuf};
 
 fn main() {
     let folder = env::var_os("FCHECK_LIB_DIR").map_or_else(
-        || Path::new(&env::var_os("CARGO_MANIFEST_DIR").unwrap()).join("../../target/staticlib"),
+        || Path::new(&env::var_os("CARGO_MANIFEST_DIR").unwrap()).join("../../crates/capi/out"),
         PathBuf::from,
     );
     let archive = folder.join("libcapi.a");
     assert!(
         archive.exists(),
-        "{}: not there; `rt staticlib capi` writes it",
+        "{}: not there; `rt lib` in crates/capi writes it",
         archive.display()
     );
     println!("cargo:rerun-if-env-changed=FCHECK_LIB_DIR");

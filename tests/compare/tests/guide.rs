@@ -120,8 +120,8 @@ fn run(folder: &Path, start: &str, end: &str) -> Output {
 #[test]
 fn the_loop_over_files_names_those_without_an_accepted_answer() {
     let folder = folder("loop");
-    fs::create_dir_all(folder.join("target/bin")).unwrap();
-    fs::rename(script(&folder, "SECOND"), folder.join("target/bin/fcheck")).unwrap();
+    fs::create_dir_all(folder.join("crates/fcheck/out")).unwrap();
+    fs::rename(script(&folder, "SECOND"), folder.join("crates/fcheck/out/fcheck")).unwrap();
     for name in ["c01", "c02", "c04"] {
         let file = folder.join(name).with_extension("flogic");
         fs::write(file, example(name).0).unwrap();
