@@ -1,22 +1,35 @@
 // Reads a text from standard input and prints the answer to it.
 #![tactic(auto)]
 
+ghost use Rattle.std.specs.Prelude.{ℕ, List, IsTrue};
+ghost use Rattle.console.specs.Answered.{Answered};
+
 use print::ROOM;
 use std::env::{Env, FillError};
+use std::io::{Read, Write};
 
-// The buffer has one byte more than a text may have.
-fn check_input(rt: &HostRuntime) {
+// Reads a text and prints the answer to it, or says why it could not, and answers whether it did. The buffer has one byte more than a text
+// may have.
+fn check_text<I: Read, O: Write, E: Write>(from: &mut I, to: &mut O, errors: &mut E) -> bool
+    ensures { IsTrue result → ((text : List ℕ) × Answered (I.remaining from.old) (I.remaining from.new) (O.contents to.old) (O.contents to.new) text text) }
+{
     let mut text = [0u8; 65536];
-    let read = console::read_text(&mut rt.stdin(), &mut text);
+    let read = console::read_text(from, &mut text);
     if read.failure.is_some() {
-        complain(rt, b"standard input can't be read");
-        return;
+        console::complain(errors, b"fcheck", b"standard input can't be read");
+        return false;
     }
     let mut lines = [0u8; ROOM];
     let answer = verdict::check(&text[..read.bytes]);
-    if console::print(&mut rt.stdout(), answer, &mut lines).is_err() {
-        complain(rt, b"standard output can't be written");
+    if console::print(to, answer, &mut lines).is_err() {
+        console::complain(errors, b"fcheck", b"standard output can't be written");
+        return false;
     }
+    true
+}
+
+fn check_input(rt: &HostRuntime) {
+    check_text(&mut rt.stdin(), &mut rt.stdout(), &mut rt.stderr());
 }
 
 fn complain(rt: &HostRuntime, what: &[u8]) {

@@ -1,8 +1,11 @@
 // Reads a base from the file that is named and a job from standard input, and prints the answer to the two.
 #![tactic(auto)]
 
-ghost use Rattle.std.specs.Prelude.{◌≡◌};
+ghost use Rattle.std.specs.Prelude.{ℕ, List, IsTrue};
 ghost use Rattle.io.specs.Counts.{IsPrefixLen};
+ghost use Rattle.text.specs.Figures.{office};
+ghost use Rattle.meaning.specs.Answer.{jointly};
+ghost use Rattle.console.specs.Answered.{Answered};
 
 use console::TextRead;
 use print::ROOM;
@@ -10,7 +13,7 @@ use std::alloc::AllocError;
 use std::env::{Env, FillError};
 use std::fs::File;
 use std::io;
-use std::io::{Error, Write};
+use std::io::{Error, Read, Write};
 use std::str::from_utf8;
 
 // Says why a call failed, and of what.
@@ -37,19 +40,32 @@ fn read_base(rt: &HostRuntime, path: &str, base: &mut [u8]) -> TextRead
     }
 }
 
-// Reads the job and prints the answer.
-fn check_input(rt: &HostRuntime, base: &[u8]) {
+// Reads the job and prints the answer to the base and the job, or says why it could not, and answers whether it did.
+fn check_job<I: Read, O: Write, E: Write>(
+    base: &[u8],
+    from: &mut I,
+    to: &mut O,
+    errors: &mut E,
+) -> bool
+    ensures { IsTrue result → ((job : List ℕ) × Answered (I.remaining from.old) (I.remaining from.new) (O.contents to.old) (O.contents to.new) job (jointly office base.now job)) }
+{
     let mut job = [0u8; 65536];
-    let read = console::read_text(&mut rt.stdin(), &mut job);
+    let read = console::read_text(from, &mut job);
     if read.failure.is_some() {
-        complain(rt, b"standard input can't be read");
-        return;
+        console::complain(errors, b"fjob", b"standard input can't be read");
+        return false;
     }
     let mut lines = [0u8; ROOM];
     let answer = verdict::check_job(base, &job[..read.bytes]);
-    if console::print(&mut rt.stdout(), answer, &mut lines).is_err() {
-        complain(rt, b"standard output can't be written");
+    if console::print(to, answer, &mut lines).is_err() {
+        console::complain(errors, b"fjob", b"standard output can't be written");
+        return false;
     }
+    true
+}
+
+fn check_input(rt: &HostRuntime, base: &[u8]) {
+    check_job(base, &mut rt.stdin(), &mut rt.stdout(), &mut rt.stderr());
 }
 
 // The base, and then the job. Each buffer has one byte more than a text may have.
