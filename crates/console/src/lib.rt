@@ -11,13 +11,16 @@ ghost use Rattle.console.specs.Arguments.{is_word};
 
 use meaning::Answer;
 use print::ROOM;
-use std::alloc::{AllocError, Global};
 use std::env::{Env, FillError};
 use std::io;
 use std::io::{Error, Read, Write};
+use std::str::from_utf8;
 
 // So many bytes are read at a time.
 const CHUNK: usize = 4096;
+
+// Bytes enough for the system's words about an error.
+const MESSAGE: usize = 256;
 
 // What was read of a text: how many bytes, and why a read failed, if one did.
 #[derive(Clone, Copy)]
@@ -106,17 +109,15 @@ pub fn complain<E: Write>(errors: &mut E, name: &[u8], what: &[u8]) {
     let _ = errors.write_all(b"\n");
 }
 
-// Says on standard error why a call failed, and of what.
-pub fn fail<E: Write>(
-    alloc: Global,
-    errors: &mut E,
-    what: &[u8],
-    error: Error,
-) -> Result<(), AllocError> {
-    let told = error.to_string(alloc)?;
-    let words = told.as_str().split(" (os error ").next().unwrap_or("");
+// Says on standard error why a call failed, and of what, in the system's words and without its number.
+pub fn fail<E: Write>(errors: &mut E, what: &[u8], error: Error) {
+    let mut message = [0u8; MESSAGE];
+    let mut room: &mut [u8] = &mut message;
+    let _ = write!(room, "{error}");
+    let text = from_utf8(&message).unwrap_or("");
+    let told = text.split('\0').next().unwrap_or("");
+    let words = told.split(" (os error ").next().unwrap_or("");
     complain(errors, what, words.as_bytes());
-    Ok(())
 }
 
 fn write_both<W: Write>(to: &mut W, first: &[u8], second: &[u8]) -> io::Result<()> {

@@ -7,9 +7,7 @@ ghost use Rattle.io.specs.Counts.{IsPrefixLen};
 
 use meaning::Answer;
 use print::ROOM;
-use std::alloc::AllocError;
 use std::fs::File;
-use std::io;
 use std::io::Read;
 
 fn complain(rt: &HostRuntime, what: &[u8]) {
@@ -112,18 +110,14 @@ fn each<R: Read>(rt: &HostRuntime, from: &mut R, pairs: bool) {
 }
 
 // All texts, or all pairs, of a file.
-fn answer_all(rt: &HostRuntime, path: &str, pairs: bool) -> Result<(), AllocError> {
+fn answer_all(rt: &HostRuntime, path: &str, pairs: bool) {
     match File::open(rt, path) {
-        Ok(mut file) => {
-            each(rt, &mut file, pairs);
-            Ok(())
-        }
-        Err(e) => console::fail(rt.alloc(), &mut rt.stderr(), path.as_bytes(), e),
+        Ok(mut file) => each(rt, &mut file, pairs),
+        Err(e) => console::fail(&mut rt.stderr(), path.as_bytes(), e),
     }
 }
 
-fn main(rt: HostRuntime) -> io::Result<()> {
-    answer_all(&rt, "corpus.bin", false)?;
-    answer_all(&rt, "pairs.bin", true)?;
-    Ok(())
+fn main(rt: HostRuntime) {
+    answer_all(&rt, "corpus.bin", false);
+    answer_all(&rt, "pairs.bin", true);
 }

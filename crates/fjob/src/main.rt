@@ -9,18 +9,16 @@ ghost use Rattle.console.specs.Answered.{Answered};
 
 use console::TextRead;
 use print::ROOM;
-use std::alloc::AllocError;
 use std::env::{Env, FillError};
 use std::fs::File;
-use std::io;
 use std::io::{Error, Read, Write};
 use std::str::from_utf8;
 
 // Says why a call failed, and of what.
-fn fail(rt: &HostRuntime, what: &[u8], error: Error) -> Result<(), AllocError> {
+fn fail(rt: &HostRuntime, what: &[u8], error: Error) {
     let mut errors = rt.stderr();
     let _ = errors.write_all(b"fjob: ");
-    console::fail(rt.alloc(), &mut errors, what, error)
+    console::fail(&mut errors, what, error);
 }
 
 fn complain(rt: &HostRuntime, what: &[u8]) {
@@ -69,15 +67,12 @@ fn check_input(rt: &HostRuntime, base: &[u8]) {
 }
 
 // The base, and then the job. Each buffer has one byte more than a text may have.
-fn check_over(rt: &HostRuntime, path: &str) -> Result<(), AllocError> {
+fn check_over(rt: &HostRuntime, path: &str) {
     let mut base = [0u8; 65536];
     let read = read_base(rt, path, &mut base);
     match read.failure {
         Some(e) => fail(rt, path.as_bytes(), e),
-        None => {
-            check_input(rt, &base[..read.bytes]);
-            Ok(())
-        }
+        None => check_input(rt, &base[..read.bytes]),
     }
 }
 
@@ -100,9 +95,9 @@ A base in a file of such a name is given with its folder, as ./--help.
 }
 
 // The answer to the argument. A path is UTF-8.
-fn answer(rt: &HostRuntime, argument: &[u8]) -> Result<(), AllocError> {
+fn answer(rt: &HostRuntime, argument: &[u8]) {
     if told(rt, argument) {
-        return Ok(());
+        return;
     }
     match from_utf8(argument) {
         Ok(path) => check_over(rt, path),
@@ -110,24 +105,22 @@ fn answer(rt: &HostRuntime, argument: &[u8]) -> Result<(), AllocError> {
             let mut errors = rt.stderr();
             let _ = errors.write_all(b"fjob: ");
             console::complain(&mut errors, argument, b"the name of the file is not UTF-8");
-            Ok(())
         }
     }
 }
 
 // The first argument is the program's name, the second the base's. A name that is too long for a path is no file's.
-fn main(rt: HostRuntime) -> io::Result<()> {
+fn main(rt: HostRuntime) {
     let mut argument = [0u8; 4096];
     if !console::has_argument(&rt, 1) || console::has_argument(&rt, 2) {
         complain(
             &rt,
             b"the base's file is the only argument, and the job is read from standard input (fjob --help)",
         );
-        return Ok(());
+        return;
     }
     match rt.arg(1, &mut argument) {
-        Ok(n) => answer(&rt, &argument[..n])?,
+        Ok(n) => answer(&rt, &argument[..n]),
         Err(_) => complain(&rt, b"BASE: File name too long"),
     }
-    Ok(())
 }
