@@ -75,7 +75,7 @@ def twins():
 
 
 PLACES = r'crates/(scan|reader|clauses|filling|agreement|expected|rule_table|rules)/'
-REAL = {'tally', 'item_depth', 'hole_depth', 'dropped', 'place_of', 'number'}
+REAL = {'tally', 'item_depth', 'hole_depth', 'dropped', 'place', 'number'}
 
 counts = [
     ('1', 'functions that answer a place, or 0, where past the end or 0 says that there is none',

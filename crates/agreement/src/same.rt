@@ -1,94 +1,55 @@
 // Comparing two filled items.
-ghost use Rattle.std.specs.Prelude.{◌≡◌, drop};
-ghost use Rattle.text.specs.Access.{entry_of};
-ghost use Rattle.filling.specs.Filled.{fill_item, indexed, ends_of, plain, both, same_item};
+ghost use Rattle.std.specs.Prelude.{◌≡◌};
+ghost use Rattle.clauses.specs.Entries.{texts};
+ghost use Rattle.filling.specs.Filled.{fill_item, indexed, both, same_item};
+ghost use Rattle.filling.specs.Items.{by_entries, compared};
 
-use clauses::access::entry;
-use filling::compare::{Ends, differ, expect_filled, past};
-use scan::numbers::number;
+use filling::compare::{Filling, along, entry, expect, index, past};
 use scan::words::word;
 
-// A variable of clause a, from its number on: its entry is the item at y of clause b, filled by the second list.
-fn same_entry(
-    a: &[u8],
-    x: usize,
-    line: &[u8],
-    first: &[usize],
-    b: &[u8],
-    y: usize,
-    second: &[usize],
+// A variable of clause a, from its number on: its entry is the item of clause b, filled by the second list. What is left of both.
+#[tactic(auto, unfolding(filling::specs::Filled::both, filling::specs::Filled::nothing_left, filling::specs::Filled::indexed, filling::specs::Items::by_entries))]
+fn same_entry<'a, 'b>(
+    first: &[&[u8]],
+    a: &'a [u8],
+    second: &[&[u8]],
+    b: &'b [u8],
     depth: usize,
-) -> Ends
-    ensures { result ≡ ends_of a.now b.now (both (indexed (entry_of line.now first.now)
-        (drop x a.now)) (fill_item (plain line.now second.now) depth
-        (drop y b.now))) }
+) -> Option<(&'a [u8], &'b [u8])>
+    ensures { compared result ≡ both (indexed (by_entries (texts first.now)).entry a.now)
+        (fill_item (by_entries (texts second.now)) depth b.now) }
 {
-    let index = number(a, x);
-    let end = past(a, index.end, b')');
-    if end > a.len() {
-        return differ(a, b);
-    }
-    let bytes = entry(line, first, index.value);
-    let found = expect_filled(b, y, depth, line, second, bytes, 0);
-    if found.pos != bytes.len() {
-        return differ(a, b);
-    }
-    Ends {
-        at: end,
-        pos: found.at,
-    }
+    let (n, rest) = index(a)?;
+    let (after, left) = expect(&Filling::by(second), b, depth, entry(first, n))?;
+    left.is_empty().then_some((rest, after))
 }
 
-// The items at x of clause a and at y of clause b, each filled by its own list of the line, are the same.
-pub fn same(
-    a: &[u8],
-    x: usize,
-    line: &[u8],
-    first: &[usize],
-    b: &[u8],
-    y: usize,
-    second: &[usize],
+// The items of clauses a and b, each filled by its own list, are the same: what is left of both.
+pub fn same<'a, 'b>(
+    first: &[&[u8]],
+    a: &'a [u8],
+    second: &[&[u8]],
+    b: &'b [u8],
     depth: usize,
-) -> Ends
-    ensures { result ≡ ends_of a.now b.now (same_item (plain line.now first.now)
-        (plain line.now second.now) depth (drop x a.now) (drop y b.now)) }
+) -> Option<(&'a [u8], &'b [u8])>
+    ensures { compared result ≡ same_item (by_entries (texts first.now)) (by_entries (texts second.now)) depth a.now b.now }
 {
-    if depth == 0 {
-        return differ(a, b);
+    let inner = depth.checked_sub(1)?;
+    if let Some(variable) = word(a, b"(v ") {
+        return same_entry(first, variable, second, b, depth);
     }
-    let index = word(a, x, b"(v ");
-    if index <= a.len() {
-        return same_entry(a, index, line, first, b, y, second, depth);
+    if let Some(variable) = word(b, b"(v ") {
+        let (left, rest) = same_entry(second, variable, first, a, depth)?;
+        return Some((rest, left));
     }
-    let index = word(b, y, b"(v ");
-    if index <= b.len() {
-        let found = same_entry(b, index, line, second, a, x, first, depth);
-        return Ends {
-            at: found.pos,
-            pos: found.at,
-        };
-    }
-    let mut i = past(a, x, b'(');
-    let mut j = past(b, y, b'(');
-    if j > b.len() {
-        return differ(a, b);
-    }
-    while i < a.len() {
-        let byte = a[i];
-        if byte == b'(' {
-            let found = same(a, i, line, first, b, j, second, depth - 1);
-            i = found.at;
-            j = found.pos;
-        } else {
-            j = past(b, j, byte);
-            if j > b.len() {
-                return differ(a, b);
-            }
-            i += 1;
-            if byte == b')' {
-                return Ends { at: i, pos: j };
-            }
-        }
-    }
-    differ(a, b)
+    let inside = past(a, b'(')?;
+    let left = past(b, b'(')?;
+    along(
+        inside,
+        left,
+        |x, y|
+            ensures { compared result ≡ same_item (by_entries (texts first.entry.now)) (by_entries (texts second.entry.now)) inner
+                x.now y.now }
+        { same(first, x, second, y, inner) },
+    )
 }

@@ -1,5 +1,5 @@
 -- V29, V33: an answer as numbers and bytes, for callers in other languages.
-use Rattle.std.specs.Prelude.{ℕ, zero, suc, cond, List, [], ◌∷◌, ◌++◌, ◌≡◌, length, drop, get_or}
+use Rattle.std.specs.Prelude.{ℕ, zero, suc, cond, List, [], ◌∷◌, ◌++◌, get_or}
 use Rattle.logic.specs.Descent.{among}
 use Rattle.meaning.specs.declared.Verdict.{Verdict}
 use Rattle.meaning.specs.declared.Verdict.TheVariants.{Refuted, Open, Refused}
@@ -7,7 +7,7 @@ use Rattle.meaning.specs.Means.{numbers}
 
 -- V29: the word is 0 for refused, 1 for open, 2 for refuted.
 unfoldable pub word_number : Verdict → ℕ
-word_number (Refused number line) = 0
+word_number (Refused check line) = 0
 word_number (Open count) = 1
 word_number (Refuted count first) = 2
 
@@ -26,9 +26,3 @@ flag ns n = cond (among n ns) 1 0
 unfoldable pub flags : ℕ → List ℕ → List ℕ
 flags zero ns = []
 flags (suc room) ns = flags room ns ++ (flag ns room ∷ [])
-
--- The bytes from one place to another are written so. Nothing of this has to be believed: `fcheck_check` says what all of them are.
-unfoldable pub Flagged : List ℕ → ℕ → ℕ → List ℕ → List ℕ → Type 0
-Flagged ns from to before after =
-    (length after ≡ length before) ×
-    ((base : List ℕ) → length base ≡ length before → before ≡ flags from ns ++ drop from base → after ≡ flags to ns ++ drop to base)

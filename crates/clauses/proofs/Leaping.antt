@@ -1,81 +1,48 @@
--- Bytes among which an item cannot end.
-use Prim.Native.Nat.{ℕ, zero, suc, ◌+◌, ◌-◌, ◌≤◌, ◌<◌}
-use mathlib.Core.Path.{◌≡◌, sym, ◌∙◌, ap₂, subst}
-use mathlib.Core.Bool.{Bool, true, false, cond}
-use mathlib.Core.List.{List}
+-- Bytes among which an item cannot end, and what is left after bytes that were passed.
+use Rattle.std.proofs.Common.{◌≡◌, ◌≤◌, ℕ, ◌+◌, ◌-◌, cond, List, [], ◌∷◌, ◌++◌, eqb, length, take, drop, count_by, sym, ap, ◌∙◌, arith}
 use native.Mathlib.Decide.{ℕ_discrete}
-use native.Mathlib.Omega.{arith}
-use lib.Dec.{eqb}
-use borrow.Author.Tests.{eq-eqb, ne_eqb}
-use lib.ListN.{length, drop, get_or}
+use borrow.Author.Tests.{ne_eqb}
+use Rattle.std.proofs.lemmas.List.{take-append-drop, length-take-le}
+use Rattle.std.proofs.lemmas.List.Sums.{sum_by-cons, count_by-le-length}
 use Rattle.text.specs.Access.{closing}
-use Rattle.text.proofs.Positions.{closing_deeper, closing_outer, closing_on}
-use Rattle.clauses.specs.Nearer.{tallied}
 
-pub tallied_most : (b : ℕ) (s : List ℕ) (at k : ℕ) → tallied b s at k ≤ k
-unfolding tallied
-tallied_most b s at zero = omega arith
-tallied_most b s at (suc k) = go (eqb (get_or s (at + k) 0) b) (tallied_most b s at k)
-  where
-    go : (t : Bool) → tallied b s at k ≤ k → tallied b s at k + cond t 1 0 ≤ suc k
-    go true h = omega arith
-    go false h = omega arith
+-- No more brackets close among w than are open.
+abbrev Leaps : List ℕ → List ℕ → ℕ → Type 0
+Leaps w rest level = count_by (eqb 41) w ≤ level → closing level (w ++ rest) ≡ closing (level + count_by (eqb 40) w - count_by (eqb 41) w) rest
 
-module _ (b : ℕ) (s : List ℕ) (at k : ℕ) where
-  pub tallied_more : get_or s (at + k) 0 ≡ b → tallied b s at (k + 1) ≡ tallied b s at k + 1
-  unfolding tallied
-  tallied_more e = let z : k + 1 ≡ suc k = omega arith in rw (z, eq-eqb _ _ e)
+counted : (b x : ℕ) (w : List ℕ) → count_by (eqb b) (x ∷ w) ≡ cond (eqb b x) 1 0 + count_by (eqb b) w
+counted b x w = sum_by-cons (λ y. cond (eqb b y) 1 0) x w
 
-  pub tallied_other : (get_or s (at + k) 0 ≡ b → ⊥) → tallied b s at (k + 1) ≡ tallied b s at k
-  unfolding tallied
-  tallied_other n = let z : k + 1 ≡ suc k = omega arith in rw (z, ne_eqb _ _ n) (omega arith)
+opens : (w rest : List ℕ) (level : ℕ) → Leaps w rest (level + 1) → Leaps (40 ∷ w) rest level
+unfolding closing
+opens w rest level l h = l (omega (arith, counted 41 40 w)) ∙ ap (λ n. closing n rest) (omega (arith, counted 40 40 w, counted 41 40 w))
 
--- The level after k bytes, among which no more brackets close than were open.
-module _ (s : List ℕ) (at level : ℕ) where
-  abbrev after_bytes : ℕ → ℕ
-  after_bytes k = level + tallied 40 s at k - tallied 41 s at k
+closes : (w rest : List ℕ) (level : ℕ) → Leaps w rest (level - 1) → Leaps (41 ∷ w) rest level
+unfolding closing
+closes w rest level l h =
+    let n : level ≡ 0 → ⊥ = λ z. omega (arith, counted 41 41 w) in
+    rw (ne_eqb level 0 n) (l (omega (arith, counted 41 41 w)) ∙ ap (λ n. closing n rest) (omega (arith, counted 40 41 w, counted 41 41 w)))
 
-  abbrev Passed : ℕ → Type 0
-  Passed k = closing level (drop at s) ≡ closing (after_bytes k) (drop (at + k) s)
+goes_on : (x : ℕ) (w rest : List ℕ) (level : ℕ) → (x ≡ 40 → ⊥) → (x ≡ 41 → ⊥) → Leaps w rest level → Leaps (x ∷ w) rest level
+unfolding closing
+goes_on x w rest level n m l h =
+    let o : count_by (eqb 40) (x ∷ w) ≡ count_by (eqb 40) w = counted 40 x w ∙ rw (ne_eqb 40 x (λ e. n (sym e))) (omega arith) in
+    let c : count_by (eqb 41) (x ∷ w) ≡ count_by (eqb 41) w = counted 41 x w ∙ rw (ne_eqb 41 x (λ e. m (sym e))) (omega arith) in
+    rw (ne_eqb x 40 n, ne_eqb x 41 m) (l (omega arith) ∙ ap (λ n. closing n rest) (omega arith))
 
-  one_more : (k : ℕ) → at + k < length s → tallied 41 s at (k + 1) ≤ level → Passed k → Passed (k + 1)
-  one_more k h l p = opened (ℕ_discrete (get_or s (at + k) 0) 40)
-    where
-      i : at + k + 1 ≡ at + (k + 1)
-      i = omega arith
+by_byte : (x : ℕ) (w rest : List ℕ) (level : ℕ) → ((n : ℕ) → Leaps w rest n) → Dec (x ≡ 40) → Dec (x ≡ 41) → Leaps (x ∷ w) rest level
+by_byte x w rest level l (yes e) _ = rw e (opens w rest level (l (level + 1)))
+by_byte x w rest level l (no n) (yes e) = rw e (closes w rest level (l (level - 1)))
+by_byte x w rest level l (no n) (no m) = goes_on x w rest level n m (l level)
 
-      on : (m : ℕ) → closing (after_bytes k) (drop (at + k) s) ≡ closing m (drop (at + k + 1) s) → m ≡ after_bytes (k + 1) → Passed (k + 1)
-      on m e f = p ∙ (e ∙ ap₂ (λ a b. closing a (drop b s)) f i)
+leaps : (w rest : List ℕ) (level : ℕ) → Leaps w rest level
+leaps [] rest level = λ h. let z : level + 0 - 0 ≡ level = omega arith in rw z
+leaps (x ∷ w) rest level = by_byte x w rest level (leaps w rest) (ℕ_discrete x 40) (ℕ_discrete x 41)
 
-      closed : (get_or s (at + k) 0 ≡ 40 → ⊥) → Dec (get_or s (at + k) 0 ≡ 41) → Passed (k + 1)
-      closed n (yes e) =
-          let o = tallied_other 40 s at k n in
-          let c = tallied_more 41 s at k e in
-          on _ (closing_outer s (at + k) (after_bytes k) h e (omega arith)) (omega arith)
-      closed n (no m) =
-          let o = tallied_other 40 s at k n in
-          let c = tallied_other 41 s at k m in
-          on _ (closing_on s (at + k) (after_bytes k) h n m) (omega arith)
+-- The same of the first k bytes.
+module _ (bs : List ℕ) (level k : ℕ) (l : k ≤ length bs) where
+  pub few : (b : ℕ) → count_by (eqb b) (take k bs) ≤ k
+  few b = omega (arith, count_by-le-length (eqb b) (take k bs), length-take-le k bs l)
 
-      opened : Dec (get_or s (at + k) 0 ≡ 40) → Passed (k + 1)
-      opened (yes e) =
-          let o = tallied_more 40 s at k e in
-          let c = tallied_other 41 s at k (λ x. omega arith) in
-          on _ (closing_deeper s (at + k) (after_bytes k) h e) (omega arith)
-      opened (no n) = closed n (ℕ_discrete (get_or s (at + k) 0) 41)
-
-  tallied_grows : (k : ℕ) → tallied 41 s at k ≤ tallied 41 s at (k + 1)
-  unfolding tallied
-  tallied_grows k = let z : k + 1 ≡ suc k = omega arith in rw z (omega arith)
-
-  none : Passed 0
-  unfolding tallied
-  none = let z : level + 0 - 0 ≡ level = omega arith in let w : at + 0 ≡ at = omega arith in rw (z, w)
-
-  pub passed : (k : ℕ) → at + k ≤ length s → tallied 41 s at k ≤ level → closing level (drop at s) ≡ closing (level + tallied 40 s at k - tallied 41 s at k) (drop (at + k) s)
-  passed zero h l = none
-  passed (suc k) h l =
-      let z : suc k ≡ k + 1 = omega arith in
-      let m : tallied 41 s at (k + 1) ≤ level = subst (λ (n : ℕ). tallied 41 s at n ≤ level) z l in
-      let g = tallied_grows k in
-      subst Passed (sym z) (one_more k (omega arith) m (passed k (omega arith) (omega arith)))
+  pub leap_over : count_by (eqb 41) (take k bs) ≤ level → closing level bs ≡ closing (level + count_by (eqb 40) (take k bs) - count_by (eqb 41) (take k bs)) (drop k bs)
+  leap_over h = ap (closing level) (sym (take-append-drop k bs)) ∙ leaps (take k bs) (drop k bs) level h

@@ -1,2 +1,5 @@
+pub mod Places
 pub mod Placing
 pub mod Leaping
+pub mod Passing
+pub mod Listing

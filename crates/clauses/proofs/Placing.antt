@@ -13,13 +13,13 @@ use Rattle.logic.specs.Syntax.{Term, var, app, Terms, Result, value, none, part,
 use Rattle.text.specs.Words.{bytes}
 use Rattle.text.specs.Write.{word, put_term, put_arguments, put_result, put_part, put_atom, put_literal}
 use Rattle.text.specs.Read.{bad, got, Reader, strip}
-use Rattle.text.specs.Places.{end_of}
+use Rattle.text.proofs.Places.{end_of}
 use Rattle.text.specs.Access.{skip_item}
 use Rattle.text.specs.Heads.{kind_number, head}
 use Rattle.text.proofs.Positions.{Tail, strip_tail, skip_tail, landed}
 use Rattle.text.proofs.Nesting.{skip_term, skip_arguments}
 use Rattle.text.proofs.Heads.{after_head, head_of, head_other, plus_of, plus_other}
-use Rattle.clauses.specs.Shapes.{strip_at, skip_at, next_at, positive_at, or_place, if_place, result_at, value_at}
+use Rattle.clauses.proofs.Places.{strip_at, skip_at, next_at, positive_at, or_place, if_place, result_at, value_at}
 
 -- Within p, and from there on these bytes.
 pub record Stands (p : List ℕ) (at : ℕ) (bs : List ℕ) : Type 0 where

@@ -1,73 +1,82 @@
 // Items one after another.
-ghost use Rattle.std.specs.Prelude.{◌≡◌, drop};
-ghost use Rattle.text.specs.Places.{end_of};
-ghost use Rattle.text.specs.Access.{pass_item, to_item, opening, to_argument, places};
+ghost use Rattle.std.specs.Prelude.{◌≡◌};
+ghost use Rattle.clauses.specs.Entries.{entries, next_entry, taken, texts};
+ghost use Rattle.text.specs.Answers.{passed};
+ghost use Rattle.text.specs.Access.{pass_item, to_item, opening, to_argument};
 
-use crate::access::skip;
+use crate::access::{skip, split};
 use scan::words::word;
 
-// Entries of a list.
-const ENTRIES: usize = 32;
+// The most entries that a list has.
+pub const ENTRIES: usize = 32;
 
-// The places of a list: of each entry, and past the last.
-pub const PLACES: usize = 33;
-
-// The place past a space and the item after it.
-pub fn pass(s: &[u8], at: usize) -> usize
-    ensures { result ≡ end_of s.now (pass_item (drop at s.now)) }
+// The bytes after a space and an item.
+#[tactic(auto, unfolding(text::specs::Access::pass_item))]
+pub fn pass(s: &[u8]) -> Option<&[u8]>
+    ensures value { passed result ≡ pass_item s.now }
+    ensures s_unchanged { s.exit.now ≡ s.entry.now }
 {
-    skip(s, word(s, at, b" "))
+    skip(word(s, b" ")?)
 }
 
-// The place of item n, from a place that stands at the space in front of item 0 or at the closing bracket.
-pub fn item(s: &[u8], at: usize, n: usize) -> usize
-    ensures { result ≡ end_of s.now (to_item n (drop at s.now)) }
+// The bytes from item n on, of items that stand after a space each.
+#[tactic(auto, unfolding(text::specs::Access::to_item))]
+pub fn item(s: &[u8], n: usize) -> Option<&[u8]>
+    ensures value { passed result ≡ to_item n s.now }
+    ensures s_unchanged { s.exit.now ≡ s.entry.now }
 {
-    let mut place = at;
-    let mut left = n;
-    while left > 0 {
-        place = pass(s, place);
-        left -= 1;
+    let mut rest = s;
+    for _ in 0..n {
+        rest = pass(rest)?;
     }
-    word(s, place, b" ")
+    word(rest, b" ")
 }
 
-// The place, if an item begins there.
-fn begins(s: &[u8], at: usize) -> usize
-    ensures { result ≡ end_of s.now (opening (drop at s.now)) }
+// The same bytes, if they begin with an item.
+#[tactic(auto, unfolding(text::specs::Access::opening))]
+pub fn begins(s: &[u8]) -> Option<&[u8]>
+    ensures value { passed result ≡ opening s.now }
+    ensures s_unchanged { s.exit.now ≡ s.entry.now }
 {
-    if at >= s.len() {
-        return s.len() + 1;
+    let (b, _) = s.split_first()?;
+    (*b == b'(').then_some(s)
+}
+
+// The bytes from argument n on, of the bracket that s begins with.
+#[tactic(auto, unfolding(text::specs::Access::to_argument))]
+pub fn argument(s: &[u8], n: usize) -> Option<&[u8]>
+    ensures value { passed result ≡ to_argument n s.now }
+    ensures s_unchanged { s.exit.now ≡ s.entry.now }
+{
+    let first = word(s, b"(")?;
+    match n.checked_sub(1) {
+        None => begins(first),
+        Some(others) => item(skip(first)?, others),
     }
-    if s[at] == b'(' { at } else { s.len() + 1 }
 }
 
-// The place of argument n of the bracket that begins at `at`.
-pub fn argument(s: &[u8], at: usize, n: usize) -> usize
-    ensures { result ≡ end_of s.now (to_argument n (drop at s.now)) }
+// The entry after a space, and the bytes after it.
+#[tactic(auto, unfolding(crate::specs::Entries::next_entry))]
+fn next_entry(s: &[u8]) -> Option<(&[u8], &[u8])>
+    ensures { taken result ≡ next_entry s.now }
 {
-    let first = word(s, at, b"(");
-    if n == 0 {
-        return begins(s, first);
-    }
-    item(s, skip(s, first), n - 1)
+    split(word(s, b" ")?)
 }
 
-// The place and those past each of the next 32 items.
-pub fn starts(s: &[u8], at: usize) -> [usize; PLACES]
-    ensures { result ≡ places s.now 33 at }
+// The entries of a list; past the last they are empty.
+pub fn entries(list: &[u8]) -> [&[u8]; ENTRIES]
+    ensures value { texts result ≡ entries list.now }
+    ensures list_unchanged { list.exit.now ≡ list.entry.now }
 {
-    let mut found = [s.len() + 1; PLACES];
-    found[0] = at;
-    let mut place = at;
-    let mut n = 0;
-    while n < ENTRIES {
-        place = pass(s, place);
-        if place > s.len() {
-            return found;
-        }
-        n += 1;
-        found[n] = place;
+    let none: &[u8] = &[];
+    let mut found = [none; ENTRIES];
+    let mut rest = word(list, b"(let").unwrap_or(none);
+    for n in 0..ENTRIES {
+        let Some((entry, after)) = next_entry(rest) else {
+            break;
+        };
+        found[n] = entry;
+        rest = after;
     }
     found
 }

@@ -1,6 +1,7 @@
-// Where the parts of a clause stand: its literals and their terms, the entries of a list, an occurrence.
+// The parts of a clause in its bytes: its literals and their terms, the entries of a list, an occurrence. Each is given by the bytes from
+// where it begins.
 #![tactic(auto)]
 
 pub mod access;
-mod items;
+pub mod items;
 pub mod shapes;

@@ -1,8 +1,15 @@
--- What a program's argument asks for.
-use Rattle.std.specs.Prelude.{ℕ, Bool, List, length, eqb}
-use Rattle.text.specs.Read.{strip}
-use Rattle.text.specs.Places.{end_of}
+-- What a program's argument asks for, and what is printed then.
+use Rattle.std.specs.Prelude.{ℕ, List, ◌++◌, cond, Option, None, Some}
+use Rattle.std.specs.Str.{bytes_eq}
+use Rattle.text.specs.Words.{bytes}
+use Rattle.console.specs.declared.Request.{Request}
+use Rattle.console.specs.declared.Request.TheVariants.{Help, Version}
 
--- The bytes are the word w: it stands at their start, and its end is theirs.
-unfoldable pub is_word : List ℕ → List ℕ → Bool
-is_word w s = eqb (end_of s (strip w s)) (length s)
+-- The two words that an argument may be.
+abbrev pub request : List ℕ → Option Request
+request argument = cond (bytes_eq argument (bytes "--help")) (Some Help) (cond (bytes_eq argument (bytes "--version")) (Some Version) None)
+
+-- The help, or the program's name and version.
+abbrev pub told : Request → List ℕ → List ℕ → List ℕ
+told Help name help = help
+told Version name help = name ++ bytes " 0.4\n"

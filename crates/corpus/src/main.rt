@@ -2,122 +2,142 @@
 // bytes, the lowest first, and then its bytes, at most 65,536; a pair is two texts, the base first.
 #![tactic(auto)]
 
-ghost use Rattle.std.specs.Prelude.{◌<◌, IfSome};
+ghost use Rattle.std.specs.Prelude.{IfOk, IfSome};
 ghost use Rattle.io.specs.Counts.{IsPrefixLen};
 
+use console::{Reason, StreamError};
 use meaning::Answer;
 use print::ROOM;
+use std::fmt;
+use std::fmt::Display;
 use std::fs::File;
-use std::io::Read;
+use std::io::{Error, Read};
 
-fn complain(rt: &HostRuntime, what: &[u8]) {
-    console::complain(&mut rt.stderr(), b"corpus", what);
+// Why the rest of a file is not answered.
+#[derive(Clone, Copy, Debug)]
+enum Failure {
+    LengthCut,
+    TextTooLong,
+    TextCut,
+    Stream(StreamError),
 }
 
-fn wide(x: u8) -> usize
-    ensures { result < 256 }
-{
-    x as usize
-}
-
-// The number that four bytes give.
-fn length_of(b: &[u8; 4]) -> usize {
-    wide(b[0]) + 256 * wide(b[1]) + 65536 * wide(b[2]) + 16777216 * wide(b[3])
-}
-
-// Prints an answer, and answers whether all was written.
-fn print(rt: &HostRuntime, a: Answer) -> bool {
-    let mut lines = [0u8; ROOM];
-    let done = console::print(&mut rt.stdout(), a, &mut lines).is_ok();
-    if !done {
-        complain(rt, b"standard output can't be written");
+impl From<Error> for Failure {
+    fn from(error: Error) -> Failure {
+        Failure::Stream(error.into())
     }
-    done
+}
+
+impl Display for Failure {
+    fn fmt<W: fmt::Write>(&self, f: &mut fmt::Formatter<W>) -> fmt::Result {
+        match self {
+            Failure::LengthCut => write!(f, "a length is cut short"),
+            Failure::TextTooLong => write!(f, "a text is too long"),
+            Failure::TextCut => write!(f, "a text is cut short"),
+            Failure::Stream(error) => write!(f, "{error}"),
+        }
+    }
+}
+
+// Reads as many bytes as there are, up to the end of the file or to a failure, which counts as the end.
+fn read_bytes<R: Read>(from: &mut R, bytes: &mut [u8]) -> usize
+    ensures { IsPrefixLen result bytes.new }
+{
+    console::read_text(from, bytes).unwrap_or_else(|failed| failed.bytes)
 }
 
 // Reads a text's length, if the file has not ended.
-fn read_length<R: Read>(rt: &HostRuntime, from: &mut R) -> Option<usize> {
+fn read_length<R: Read>(from: &mut R) -> Result<Option<usize>, Failure> {
     let mut head = [0u8; 4];
-    match console::read_text(from, &mut head).bytes {
-        4 => Some(length_of(&head)),
-        0 => None,
-        _ => {
-            complain(rt, b"a length is cut short");
-            None
-        }
+    match read_bytes(from, &mut head) {
+        4 => Ok(Some(u32::from_le_bytes(head) as usize)),
+        0 => Ok(None),
+        _ => Err(Failure::LengthCut),
     }
 }
 
 // Reads a text's length and then the text, and answers how many bytes it has, if there is one.
-fn read_next<R: Read>(rt: &HostRuntime, from: &mut R, text: &mut [u8]) -> Option<usize>
-    ensures { IfSome result (λ n. IsPrefixLen n text.new) }
+fn read_next<R: Read>(from: &mut R, text: &mut [u8]) -> Result<Option<usize>, Failure>
+    ensures { IfOk result (λ next. IfSome next (λ n. IsPrefixLen n text.new)) }
 {
-    let n = read_length(rt, from)?;
+    let Some(n) = read_length(from)? else {
+        return Ok(None);
+    };
     if n > text.len() {
-        complain(rt, b"a text is too long");
-        return None;
+        return Err(Failure::TextTooLong);
     }
-    let got = console::read_text(from, &mut text[..n]).bytes;
-    if got != n {
-        complain(rt, b"a text is cut short");
-        return None;
+    if read_bytes(from, &mut text[..n]) < n {
+        return Err(Failure::TextCut);
     }
-    Some(n)
+    Ok(Some(n))
 }
 
-// The answer to the next text. Answers whether to go on.
-fn next_text<R: Read>(rt: &HostRuntime, from: &mut R) -> bool {
+// The answer to the next text, if there is one.
+fn next_text<R: Read>(from: &mut R) -> Result<Option<Answer>, Failure> {
     let mut text = [0u8; 65536];
-    match read_next(rt, from, &mut text) {
-        Some(n) => print(rt, verdict::check(&text[..n])),
-        None => false,
-    }
+    let next = read_next(from, &mut text)?;
+    Ok(next.map(|n| verdict::check(&text[..n])))
 }
 
-// The answer to a base and the next text as its job. Answers whether to go on.
-fn next_job<R: Read>(rt: &HostRuntime, from: &mut R, base: &[u8]) -> bool {
+// The answer to a base and the next text as its job, if there is one.
+fn next_job<R: Read>(from: &mut R, base: &[u8]) -> Result<Option<Answer>, Failure> {
     let mut job = [0u8; 65536];
-    match read_next(rt, from, &mut job) {
-        Some(n) => print(rt, verdict::check_job(base, &job[..n])),
-        None => false,
-    }
+    let next = read_next(from, &mut job)?;
+    Ok(next.map(|n| verdict::check_job(base, &job[..n])))
 }
 
-// The answer to the next pair. Answers whether to go on.
-fn next_pair<R: Read>(rt: &HostRuntime, from: &mut R) -> bool {
+// The answer to the next pair, if there is one.
+fn next_pair<R: Read>(from: &mut R) -> Result<Option<Answer>, Failure> {
     let mut base = [0u8; 65536];
-    match read_next(rt, from, &mut base) {
-        Some(n) => next_job(rt, from, &base[..n]),
-        None => false,
+    match read_next(from, &mut base)? {
+        Some(n) => next_job(from, &base[..n]),
+        None => Ok(None),
     }
 }
 
-fn next<R: Read>(rt: &HostRuntime, from: &mut R, pairs: bool) -> bool {
-    if pairs {
-        next_pair(rt, from)
-    } else {
-        next_text(rt, from)
-    }
+fn print(rt: &HostRuntime, answer: Answer) -> Result<(), Failure> {
+    let mut lines = [0u8; ROOM];
+    console::print(&mut rt.stdout(), answer, &mut lines)?;
+    Ok(())
 }
 
-// A proved loop has to end, and nothing says that a file does, so the turns are counted.
-fn each<R: Read>(rt: &HostRuntime, from: &mut R, pairs: bool) {
+// Prints each answer that `next` gives. A proved loop has to end, and nothing says that a file does, so the turns are counted.
+fn print_all<R: Read, F: Fn(&mut R) -> Result<Option<Answer>, Failure>>(
+    rt: &HostRuntime,
+    from: &mut R,
+    next: F,
+) -> Result<(), Failure>
+    requires { F.IsAlwaysCallable next }
+{
     for _ in 0..u64::MAX {
-        if !next(rt, from, pairs) {
-            break;
+        match next(from)? {
+            Some(answer) => print(rt, answer)?,
+            None => break,
         }
     }
+    Ok(())
 }
 
-// All texts, or all pairs, of a file.
-fn answer_all(rt: &HostRuntime, path: &str, pairs: bool) {
+// Prints the answers to all that a file holds.
+fn answer_file<F: Fn(&mut File) -> Result<Option<Answer>, Failure>>(
+    rt: &HostRuntime,
+    path: &str,
+    next: F,
+)
+    requires { F.IsAlwaysCallable next }
+{
+    let mut errors = rt.stderr();
     match File::open(rt, path) {
-        Ok(mut file) => each(rt, &mut file, pairs),
-        Err(e) => console::fail(&mut rt.stderr(), path.as_bytes(), e),
+        Ok(mut file) => {
+            if let Err(failure) = print_all(rt, &mut file, next) {
+                console::complain(&mut errors, "corpus", failure);
+            }
+        }
+        Err(error) => console::complain(&mut errors, path, Reason(error)),
     }
 }
 
 fn main(rt: HostRuntime) {
-    answer_all(&rt, "corpus.bin", false);
-    answer_all(&rt, "pairs.bin", true);
+    answer_file(&rt, "corpus.bin", next_text);
+    answer_file(&rt, "pairs.bin", next_pair);
 }

@@ -1,81 +1,101 @@
 // From which inputs a clause descends: one walk back over the clauses, by the parents that each step uses.
 #![tactic(auto)]
 
-ghost use Rattle.std.specs.Prelude.{◌<◌, ◌≡◌};
+ghost use Rattle.std.specs.Prelude.{◌<◌, ◌≡◌, set};
 ghost use Rattle.text.specs.Figures.{office};
-ghost use Rattle.descent.specs.Walk.{held_parent, parents_by, marked, passed, inputs_from};
+ghost use Rattle.descent.specs.Walk.{parent_if, parents_by, marked, passed, inputs_from};
 
 use logic::Rule;
-use rule_numbers::used;
+use rule_numbers::Uses;
 use text::LINES;
 
-// The numbers of the parents that a step uses; LINES, which no clause has, for one that it does not use.
-#[derive(Clone, Copy)]
+// The numbers of the parents that a step uses; None for one that it does not use, or that no clause can be.
+#[derive(Clone, Copy, Debug, PartialEq, Eq)]
 pub struct Parents {
-    pub a: u16,
-    pub b: u16,
+    pub a: Option<u16>,
+    pub b: Option<u16>,
+}
+
+impl Parents {
+    pub const NONE: Parents = Parents { a: None, b: None };
+}
+
+// What is held of a clause besides its place: its number of literals, its width, and the parents that its step uses.
+#[derive(Clone, Copy, Debug, PartialEq, Eq)]
+pub struct Held {
+    pub literals: u8,
+    pub width: u8,
+    pub parents: Parents,
+}
+
+impl Held {
+    pub const NONE: Held = Held {
+        literals: 0,
+        width: 0,
+        parents: Parents::NONE,
+    };
 }
 
 // A parent's number, if it is used.
-fn held(is_used: bool, n: usize) -> u16
-    ensures { result ≡ held_parent is_used n }
+#[tactic(auto, unfolding(crate::specs::Walk::parent_if))]
+fn parent(is_used: bool, n: usize) -> Option<u16>
+    ensures { result ≡ parent_if is_used n }
 {
-    if !is_used {
-        return LINES as u16;
+    if is_used && n < LINES {
+        Some(n as u16)
+    } else {
+        None
     }
-    if n >= LINES {
-        return LINES as u16;
-    }
-    n as u16
 }
 
 // The parents that a step by the rule uses.
+#[tactic(auto, unfolding(crate::specs::Walk::parents_by))]
 pub fn used_parents(rule: Rule, a: usize, b: usize) -> Parents
     ensures { result ≡ parents_by rule a b }
 {
+    let uses = Uses::of(rule);
     Parents {
-        a: held(used(rule, 0), a),
-        b: held(used(rule, 2), b),
+        a: parent(uses.a, a),
+        b: parent(uses.b, b),
     }
 }
 
-// Marks clause n, if there is room for it.
-fn mark(marks: &mut [bool; LINES], n: usize)
-    ensures { marks.new ≡ marked marks.old n }
+// Marks clause n, if there is one.
+#[tactic(auto, unfolding(crate::specs::Walk::marked))]
+fn mark(marks: &mut [bool; LINES], clause: Option<u16>)
+    ensures { marks.new ≡ marked marks.old clause }
 {
-    if n >= LINES {
-        return;
+    if let Some(n) = clause.map(usize::from)
+        && n < LINES
+    {
+        marks[n] = true;
     }
-    marks[n] = true;
 }
 
 // A marked step gives way to the parents that it uses.
-fn pass(marks: &mut [bool; LINES], n: usize, a: u16, b: u16)
+#[tactic(auto, unfolding(crate::specs::Walk::passed))]
+fn pass(marks: &mut [bool; LINES], n: usize, parents: Parents)
     requires { n < office.lines }
-    ensures { marks.new ≡ passed marks.old n a b }
+    ensures { marks.new ≡ passed marks.old n parents }
 {
-    if !marks[n] {
-        return;
+    if marks[n] {
+        marks[n] = false;
+        mark(marks, parents.a);
+        mark(marks, parents.b);
     }
-    marks[n] = false;
-    mark(marks, a as usize);
-    mark(marks, b as usize);
 }
 
-// The inputs, so many, from which clause `first` descends: those that are marked. Of each step the parents that it uses are held in a
-// and b.
-pub fn rests(a: &[u16; LINES], b: &[u16; LINES], inputs: usize, first: usize) -> [bool; LINES]
-    ensures { result ≡ inputs_from a.now b.now inputs first }
+// The inputs, so many, from which clause `first` descends: those that are marked.
+pub fn rests(held: &[Held; LINES], inputs: usize, first: usize) -> [bool; LINES]
+    ensures { result ≡ inputs_from held.now inputs first }
 {
     let mut marks = [false; LINES];
     if first >= LINES {
         return marks;
     }
     marks[first] = true;
-    let mut n = first + 1;
-    while n > inputs {
-        n -= 1;
-        pass(&mut marks, n, a[n], b[n]);
+    for n in (inputs..=first).rev() {
+        pass(&mut marks, n, held[n].parents);
     }
     marks
 }

@@ -1,181 +1,137 @@
-// Check 11: what is expected in the claim. `rest` is the rest of the line from the claim on; each call answers the place in it past what it
-// expects.
-// A list without places says that its clause has no variables. Terms nest at most `depth` deep.
-ghost use Rattle.std.specs.Prelude.{◌≡◌, eqb, length};
-ghost use Rattle.clauses.specs.Shapes.{literals_at};
-ghost use Rattle.filling.specs.Claims.{filled_at, rewritten_at, kept_at, others_at, reflexive_at, equated_at, claim_end};
+// Check 11: what is expected in the claim. Each call takes what is left of the line and answers what is left after what it expects.
+// Terms nest at most `depth` deep.
+ghost use Rattle.std.specs.Prelude.{◌≡◌, length};
+ghost use Rattle.text.specs.Answers.{passed};
+ghost use Rattle.clauses.specs.Shapes.{literals};
+ghost use Rattle.filling.specs.Items.{item_of, entries_of, compared};
+ghost use Rattle.expected.specs.Claims.{claim_ends, item_claimed, linked, reflexive, equated, rewritten, kept, others};
 
-use crate::expect::{Walk, expect};
-use clauses::access::skip;
-use filling::compare::{Ends, hole_depth, item_depth, stands};
+use clauses::items::pass;
+use filling::compare::{Filled, Filling, Replaced, expect, hole_depth, item_depth, stands};
 use scan::words::word;
 
-// The term at `term` of the literal at `literal` of one clause is replaced by the one at `from` of another.
-#[derive(Clone, Copy)]
-pub struct Hole {
-    pub literal: usize,
-    pub term: usize,
-    pub from: usize,
-}
-
-// The terms at `left` of one clause and at `right` of another.
-#[derive(Clone, Copy)]
-pub struct Terms {
-    pub left: usize,
-    pub right: usize,
-}
-
 // The beginning of the claim.
-pub fn begin(rest: &[u8]) -> usize
-    ensures value { result ≡ literals_at rest.now }
+pub fn begin(claim: &[u8]) -> Option<&[u8]>
+    ensures value { passed result ≡ literals claim.now }
+    ensures claim_unchanged { claim.exit.now ≡ claim.entry.now }
+{
+    word(claim, b"(or")
+}
+
+// Whether the claim ends here, and the line with it.
+#[tactic(auto, unfolding(crate::specs::Claims::claim_ends, crate::specs::Claims::nothing_after))]
+pub fn ends(rest: &[u8]) -> bool
+    ensures value { result ≡ claim_ends rest.now }
     ensures rest_unchanged { rest.exit.now ≡ rest.entry.now }
 {
-    word(rest, 0, b"(or")
+    word(rest, b"))").is_some_and(|after| after.is_empty())
 }
 
-// Whether the claim ends at the place, and the line with it.
-pub fn ends(rest: &[u8], pos: usize) -> bool
-    ensures value { result ≡ eqb (claim_end rest.now pos) (length rest.now) }
-    ensures rest_unchanged { rest.exit.now ≡ rest.entry.now }
+// The item, filled.
+#[tactic(auto, unfolding(crate::specs::Claims::item_claimed, crate::specs::Claims::in_claim))]
+fn filled<'r>(depth: u8, x: Filled<'_>, rest: &'r [u8]) -> Option<&'r [u8]>
+    ensures { passed result ≡ item_claimed depth (item_of x.entry) rest.now }
 {
-    word(rest, pos, b"))") == rest.len()
+    let (_, left) = stands(x, item_depth(depth), rest)?;
+    Some(left)
 }
 
-// The item at `at` of the clause, filled.
-fn filled(
-    depth: u8,
-    clause: &[u8],
-    at: usize,
-    line: &[u8],
-    list: &[usize],
-    rest: &[u8],
-    pos: usize,
-) -> usize
-    ensures { result ≡ filled_at depth clause.now at line.now list.now rest.now pos }
+// The first of a clause's literals that stand after a space each: what is left of them, and of the claim.
+#[tactic(auto, unfolding(crate::specs::Claims::kept))]
+fn kept<'a, 'r>(depth: u8, literals: Filled<'a>, rest: &'r [u8]) -> Option<(&'a [u8], &'r [u8])>
+    ensures { compared result ≡ kept depth (item_of literals.entry) rest.now }
 {
-    let found = stands(clause, at, item_depth(depth), line, list, rest, pos);
-    found.pos
+    let literal = literals.beside(word(literals.item, b" ")?);
+    stands(literal, item_depth(depth), word(rest, b" ")?)
 }
 
-// The literal at `at` after a space: the places past it, in the clause and in the rest.
-fn kept(
+// The first `count` literals of the clause but one, filled, each after a space.
+pub fn others<'r>(
     depth: u8,
-    clause: &[u8],
-    at: usize,
-    line: &[u8],
-    list: &[usize],
-    rest: &[u8],
-    pos: usize,
-) -> Ends
-    ensures { result ≡ kept_at depth clause.now at line.now list.now rest.now pos }
-{
-    let after = word(rest, pos, b" ");
-    stands(clause, at, item_depth(depth), line, list, rest, after)
-}
-
-// The first `count` literals of a clause but one, filled, each after a space.
-pub fn others(
-    depth: u8,
-    clause: &[u8],
+    clause: Filled<'_>,
     count: usize,
     dropped: usize,
-    line: &[u8],
-    list: &[usize],
-    rest: &[u8],
-    pos: usize,
-) -> usize
-    ensures value { result ≡ others_at depth clause.now count dropped line.now list.now rest.now
-        pos }
-    ensures clause_unchanged { (clause.exit.now ≡ clause.entry.now) × (line.exit.now ≡ line.entry.now) }
-    ensures rest_unchanged { rest.exit.now ≡ rest.entry.now }
+    rest: &'r [u8],
+) -> Option<&'r [u8]>
+    ensures value { passed result ≡ others depth count dropped (item_of clause.entry) rest.now }
+    ensures clause_unchanged { (item_of clause.exit ≡ item_of clause.entry) × (rest.exit.now ≡ rest.entry.now) }
 {
-    let mut at = word(clause, 0, b"(or");
-    let mut place = pos;
-    let mut n = 0;
-    while n < count {
-        let begin = word(clause, at, b" ");
-        let drop = n == dropped;
-        n += 1;
-        if drop {
-            if n < count {
-                at = skip(clause, begin);
-            }
-        } else {
-            let found = kept(depth, clause, begin, line, list, rest, place);
-            at = found.at;
-            place = found.pos;
+    let mut literals = begin(clause.item).unwrap_or(&[]);
+    let mut left = rest;
+    for n in 0..count {
+        if n != dropped {
+            (literals, left) = kept(depth, clause.beside(literals), left)?;
+        } else if n + 1 < count {
+            literals = pass(literals)?;
         }
     }
-    place
+    Some(left)
+}
+
+// A literal of two terms: its head with the space in front, the terms, filled, and two closing brackets.
+#[tactic(auto, unfolding(crate::specs::Claims::linked))]
+fn linked<'r>(
+    depth: u8,
+    head: &[u8],
+    left: Filled<'_>,
+    right: Filled<'_>,
+    rest: &'r [u8],
+) -> Option<&'r [u8]>
+    ensures { passed result ≡ linked depth head.now (item_of left.entry) (item_of right.entry) rest.now }
+{
+    let first = filled(depth, left, word(rest, head)?)?;
+    let second = filled(depth, right, word(first, b" ")?)?;
+    word(second, b"))")
 }
 
 // + sub(T,T), T the list's first term.
-pub fn reflexive(depth: u8, line: &[u8], list: &[usize], rest: &[u8]) -> usize
-    ensures value { result ≡ reflexive_at depth line.now list.now rest.now
-        (literals_at rest.now) }
-    ensures line_unchanged { (line.exit.now ≡ line.entry.now) × (rest.exit.now ≡ rest.entry.now) }
+#[tactic(auto, unfolding(crate::specs::Claims::reflexive))]
+pub fn reflexive<'r>(depth: u8, entries: Option<&[&[u8]]>, rest: &'r [u8]) -> Option<&'r [u8]>
+    ensures value { passed result ≡ reflexive depth (entries_of entries.entry) rest.now }
+    ensures rest_unchanged { (entries_of entries.exit ≡ entries_of entries.entry) × (rest.exit.now ≡ rest.entry.now) }
 {
-    let open = word(rest, begin(rest), b" (+ (sub ");
-    let left = filled(depth, b"(v 0)", 0, line, list, rest, open);
-    let right = filled(depth, b"(v 0)", 0, line, list, rest, word(rest, left, b" "));
-    word(rest, right, b"))")
-}
-
-// + eq of a term of clause a, filled by the first list, and one of clause b, filled by the second.
-pub fn equated(
-    depth: u8,
-    a: &[u8],
-    first: &[usize],
-    b: &[u8],
-    second: &[usize],
-    line: &[u8],
-    rest: &[u8],
-    terms: Terms,
-) -> usize
-    ensures value { result ≡ equated_at depth a.now terms.left line.now first.now b.now
-        terms.right second.now rest.now (literals_at rest.now) }
-    ensures a_unchanged { (a.exit.now ≡ a.entry.now) × (b.exit.now ≡ b.entry.now) }
-    ensures line_unchanged { (line.exit.now ≡ line.entry.now) × (rest.exit.now ≡ rest.entry.now) }
-{
-    let open = word(rest, begin(rest), b" (+ (eq ");
-    let left = filled(depth, a, terms.left, line, first, rest, open);
-    let right = filled(
-        depth,
-        b,
-        terms.right,
-        line,
-        second,
-        rest,
-        word(rest, left, b" "),
-    );
-    word(rest, right, b"))")
-}
-
-// A literal of clause a, filled by the first list, with a term of clause b, filled by the second, in place of one of its own.
-pub fn rewritten(
-    depth: u8,
-    a: &[u8],
-    first: &[usize],
-    b: &[u8],
-    second: &[usize],
-    line: &[u8],
-    rest: &[u8],
-    hole: Hole,
-) -> usize
-    ensures value { result ≡ rewritten_at depth a.now hole.literal hole.term line.now first.now
-        b.now hole.from second.now rest.now
-        (literals_at rest.now) }
-    ensures a_unchanged { (a.exit.now ≡ a.entry.now) × (b.exit.now ≡ b.entry.now) }
-    ensures line_unchanged { (line.exit.now ≡ line.entry.now) × (rest.exit.now ≡ rest.entry.now) }
-{
-    let pos = word(rest, begin(rest), b" ");
-    let w = Walk {
-        at: hole.literal,
-        pos,
-        hole: hole.term,
-        from: hole.from,
-        depth: hole_depth(depth),
+    let first = Filled {
+        item: b"(v 0)",
+        entries,
     };
-    let found = expect(a, first, b, second, line, rest, w);
-    found.pos
+    linked(depth, b" (+ (sub ", first, first, rest)
+}
+
+// + eq of two terms.
+#[tactic(auto, unfolding(crate::specs::Claims::equated))]
+pub fn equated<'r>(
+    depth: u8,
+    left: Filled<'_>,
+    right: Filled<'_>,
+    rest: &'r [u8],
+) -> Option<&'r [u8]>
+    ensures value { passed result ≡ equated depth (item_of left.entry) (item_of right.entry) rest.now }
+    ensures left_unchanged { (item_of left.exit ≡ item_of left.entry) × (item_of right.exit ≡ item_of right.entry) }
+    ensures rest_unchanged { rest.exit.now ≡ rest.entry.now }
+{
+    linked(depth, b" (+ (eq ", left, right, rest)
+}
+
+// A literal with a term of another clause in place of one of its own, which is given by the bytes from where it begins.
+#[tactic(auto, unfolding(crate::specs::Claims::rewritten, crate::specs::Claims::in_claim))]
+pub fn rewritten<'r>(
+    depth: u8,
+    literal: Filled<'_>,
+    hole: &[u8],
+    new: Filled<'_>,
+    rest: &'r [u8],
+) -> Option<&'r [u8]>
+    ensures value { passed result ≡ rewritten depth (item_of literal.entry) (length hole.now) (item_of new.entry) rest.now }
+    ensures literal_unchanged { (item_of literal.exit ≡ item_of literal.entry) × (item_of new.exit ≡ item_of new.entry) }
+    ensures rest_unchanged { (hole.exit.now ≡ hole.entry.now) × (rest.exit.now ≡ rest.entry.now) }
+{
+    let filling = Filling {
+        entries: literal.listed(),
+        replaced: Some(Replaced {
+            hole: hole.len(),
+            new,
+        }),
+    };
+    let (_, left) = expect(&filling, literal.item, hole_depth(depth), word(rest, b" ")?)?;
+    Some(left)
 }

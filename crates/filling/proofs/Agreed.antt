@@ -18,13 +18,14 @@ use Rattle.text.specs.Read.{Parsed, bad, got}
 use Rattle.text.proofs.Unique.{term_unique, arguments_unique}
 use Rattle.text.proofs.Deep.{formed_symbol}
 use Rattle.text.proofs.Trees.{Tree, put_tree, Clean, Within, Below, tree_term, tree_arguments, tree_atom, put_term_lem, put_arguments_lem, put_atom_lem, clean_term, clean_arguments, clean_atom, within_term, within_arguments, within_atom}
-use Rattle.filling.specs.Filled.{plain, ground, same_item, ends_of, item_depth}
-use Rattle.filling.specs.Agree.{agree_at}
+use Rattle.filling.specs.Filled.{same_item, item_depth}
+use Rattle.filling.proofs.Places.{plain, ground, ends_of}
+use Rattle.filling.proofs.Agree.{agree_at}
 use Rattle.filling.proofs.Alike.{Fills, term_fills, same_tree, same_only}
 use Rattle.filling.proofs.Filling.{fill_tree, trees, tree_term_lem, tree_arguments_lem, tree_atom_lem}
 use Rattle.filling.proofs.Grounds.{Entries, no_width, ground_tree, stands_there, stands_only}
 use Rattle.filling.proofs.NumberedFill.{atom_bytes}
-use Rattle.clauses.specs.Shapes.{within}
+use Rattle.clauses.proofs.Places.{within}
 use Rattle.clauses.proofs.Placing.{Stands}
 
 -- The place past what agrees is a place exactly where something was read.

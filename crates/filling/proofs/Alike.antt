@@ -20,7 +20,7 @@ use Rattle.text.proofs.Nesting.{inner_tests}
 use Rattle.filling.specs.Filled.{Filler, prefixed, inside_up_to, inside, read_index, indexed, instead, fill_item, matches, along, nothing_left, both, turned, same_item}
 use Rattle.filling.proofs.Filling.{fill_tree, fill_trees, tree_longer, not_variable, after_it, fill_tree_lem, trees}
 use Rattle.filling.proofs.Walk.{Pair, inside_open, inside_close, inside_on, fill_shrinks, fill_variable, fill_bracket}
-use Rattle.filling.proofs.Items.{variable}
+use Rattle.filling.proofs.Expecting.{variable}
 use Rattle.filling.proofs.Sameness.{same_first, same_second, same_nested, turned_gives}
 
 strip_self : (w : List ℕ) → strip w w ≡ got tt []

@@ -15,16 +15,17 @@ use Rattle.text.specs.Words.{bytes}
 use Rattle.text.specs.Write.{word, put_literal, put_literals}
 use Rattle.text.specs.Form.{formed_literal, formed_clause}
 use Rattle.text.specs.Read.{Parsed, bad, got, and_then, strip}
-use Rattle.text.specs.Places.{end_of}
+use Rattle.text.proofs.Places.{end_of}
 use Rattle.text.specs.Access.{skip_item}
 use Rattle.text.proofs.Positions.{strip_tail, then_end}
 use Rattle.text.proofs.Plain.{in_front, literal_plain}
 use Rattle.text.proofs.Nesting.{skip_literal}
 use Rattle.text.proofs.Heads.{strip_same}
-use Rattle.filling.specs.declared.compare.Ends.{Ends}
-use Rattle.filling.specs.Filled.{filled_by, matches, ends_of, item_depth}
-use Rattle.clauses.specs.Shapes.{strip_at, skip_at}
-use Rattle.filling.specs.Claims.{kept_at, once_at, others_from}
+use Rattle.filling.proofs.Places.{Ends}
+use Rattle.filling.specs.Filled.{matches, item_depth}
+use Rattle.filling.proofs.Places.{filled_by, ends_of}
+use Rattle.clauses.proofs.Places.{strip_at, skip_at}
+use Rattle.filling.proofs.Claims.{kept_at, once_at, others_from}
 use Rattle.filling.proofs.Filling.{tree_literal_lem}
 use Rattle.filling.proofs.Walk.{strip_append}
 use Rattle.filling.proofs.Grounds.{Entries, filled_by_lem, empty_by}

@@ -11,16 +11,19 @@ use lib.Seq.{take_at}
 use Rattle.logic.specs.Fill.{Substitution}
 use Rattle.text.specs.Write.{put_term}
 use Rattle.text.specs.Read.{Parsed, bad, got, and_then, strip}
-use Rattle.text.specs.Access.{skip_item, entry_of}
+use Rattle.text.specs.Access.{skip_item}
+use Rattle.text.proofs.Places.{entry_of}
 use Rattle.text.proofs.Gives.{Gives, nothing, gives, strip_gives}
 use Rattle.text.proofs.Heads.{strip_same}
 use Rattle.text.proofs.Nesting.{skip_tree}
 use Rattle.text.proofs.Trees.{Tree, var, node, Trees, end, byte, bracket, put_tree, Clean, Within, WithinIn, Below, tree_term, put_term_lem}
-use Rattle.filling.specs.Filled.{fill_item, plain, ground, itself, filled_by, matches, ends_of, item_depth}
-use Rattle.filling.specs.Agree.{stands_at}
+use Rattle.filling.specs.Filled.{fill_item, matches, item_depth}
+use Rattle.clauses.specs.Entries.{itself}
+use Rattle.filling.proofs.Places.{plain, ground, filled_by, ends_of}
+use Rattle.filling.proofs.Agree.{stands_at}
 use Rattle.filling.proofs.Filling.{fill_tree, fill_trees, tree_front, tree_longer, after_it, fill_tree_lem, trees}
 use Rattle.filling.proofs.Walk.{fill_empty}
-use Rattle.clauses.specs.Shapes.{within}
+use Rattle.clauses.proofs.Places.{within}
 use Rattle.clauses.proofs.Placing.{Stands}
 
 -- A list whose entries are the written images of the variables below w.

@@ -1,12 +1,13 @@
+pub mod Places
+pub mod Agree
+pub mod Covers
+pub mod Claims
 pub mod Filling
 pub mod Walk
 pub mod Loops
-pub mod Answers
-pub mod Expected
 pub mod Sameness
 pub mod Grounds
-pub mod Items
-pub mod Claiming
+pub mod Expecting
 pub mod Claimed
 pub mod Alike
 pub mod NumberedFill

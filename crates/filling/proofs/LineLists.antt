@@ -12,9 +12,10 @@ use Rattle.logic.specs.Fill.{Substitution, fill, entries}
 use Rattle.text.specs.Write.{word, put_term, put_terms}
 use Rattle.text.specs.Form.{formed_term}
 use Rattle.text.specs.Read.{got}
-use Rattle.text.specs.Access.{places, entry_of}
+use Rattle.text.proofs.Places.{places, entry_of}
 use Rattle.text.proofs.Nesting.{let_entry}
-use Rattle.filling.specs.Filled.{fill_item, plain, replacing}
+use Rattle.filling.specs.Filled.{fill_item}
+use Rattle.filling.proofs.Places.{plain, replacing}
 use Rattle.filling.proofs.Filling.{Clear, after_it, fill_term}
 use Rattle.filling.proofs.Holes.{stack}
 use Rattle.filling.proofs.NumberedFill.{term_deeper}

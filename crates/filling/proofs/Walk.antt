@@ -9,15 +9,16 @@ use lib.Dec.{eqb, leb}
 use lib.ListN.{length, drop, length-drop, drop_of_length-le}
 use borrow.Author.Tests.{eq-eqb, ne_eqb, leb-true, leb-false}
 use Rattle.text.specs.Read.{Parsed, bad, got, Reader, and_then, one_of, strip}
-use Rattle.text.specs.Places.{end_of}
+use Rattle.text.proofs.Places.{end_of}
 use Rattle.text.specs.Access.{skip_item}
 use Rattle.text.proofs.Tests.{on_test}
 use Rattle.text.proofs.Gives.{Gives, nothing, gives, weaken, bind, none, branch, one_of_meets}
 use Rattle.text.proofs.Number.{number_sound}
 use Rattle.text.proofs.Plain.{number_plain}
 use Rattle.text.proofs.Positions.{End, Tail, end_refl, end_trans, end_cons, end_drop, strip_tail, sound_tail, closing_tail}
-use Rattle.filling.specs.declared.compare.Ends.{Ends}
-use Rattle.filling.specs.Filled.{Filler, prefixed, inside_up_to, inside, read_index, indexed, instead, fill_item, matches, ends_of, along}
+use Rattle.filling.proofs.Places.{Ends}
+use Rattle.filling.specs.Filled.{Filler, prefixed, inside_up_to, inside, read_index, indexed, instead, fill_item, matches, along}
+use Rattle.filling.proofs.Places.{ends_of}
 
 -- The steps of filling.
 module _ (f : Filler) where

@@ -1,9 +1,8 @@
 -- Nothing here is to be believed: the laws in proofs/ say what it gives on written clauses.
 -- R2 in bytes: "variable N of A becomes term N of the first list, variable N of B becomes term N of the second list".
-use Rattle.std.specs.Prelude.{ℕ, zero, suc, ◌+◌, ◌-◌, Bool, cond, List, [], ◌∷◌, ◌++◌, eqb, leb, length, take, drop}
+use Rattle.std.specs.Prelude.{ℕ, zero, suc, ◌+◌, cond, List, [], ◌∷◌, ◌++◌, eqb, length}
 use Rattle.text.specs.Read.{Parsed, bad, got, Reader, and_then, ◌>>=◌, ◌>>◌, return, ◌⇒◌, or_else, one_of, strip, skip, read_number}
-use Rattle.text.specs.Access.{skip_item, entry_of}
-use Rattle.filling.specs.declared.compare.Ends.{Ends}
+use Rattle.text.specs.Access.{skip_item}
 
 -- Bytes in front of what is read.
 unfoldable pub prefixed : List ℕ → Parsed (List ℕ) → Parsed (List ℕ)
@@ -52,39 +51,10 @@ fill_item f (suc depth) bs =
     let kept = one_of (("(v " ⇒ indexed f.entry) ∷ ("(" ⇒ (λ inner. prefixed (40 ∷ []) (inside (fill_item f depth) inner))) ∷ []) bs in
     cond (eqb (length bs) f.hole) replaced kept
 
--- No hole: no item has 0 bytes.
-unfoldable pub plain : List ℕ → List ℕ → Filler
-plain line starts = record { entry = entry_of line starts; hole = 0; new = λ _. bad }
-
--- In the hole stands the item at `from` of q, filled by another list of the same line.
-unfoldable pub replacing : List ℕ → List ℕ → ℕ → List ℕ → ℕ → List ℕ → Filler
-replacing line starts hole q from others =
-    record { entry = entry_of line starts; hole = hole; new = λ depth. fill_item (plain line others) depth (drop from q) }
-
--- The bytes of an item as they stand.
-unfoldable pub itself : Reader (List ℕ)
-itself bs = and_then (skip_item bs) (λ _ rest. got (take (length bs - length rest) bs) rest)
-
--- A clause without variables is its own filled form: its list has no places.
-abbrev pub ground : List ℕ → Bool
-ground starts = eqb (length starts) 0
-
-unfoldable pub filled_by : List ℕ → List ℕ → ℕ → Reader (List ℕ)
-filled_by line starts depth bs = cond (ground starts) (itself bs) (fill_item (plain line starts) depth bs)
-
 -- What was filled stands at the front of ts: the bytes after it in ts, and those after the item.
 unfoldable pub matches : Parsed (List ℕ) → List ℕ → Parsed (List ℕ)
 matches bad ts = bad
 matches (got ws rest) ts = and_then (strip ws ts) (λ _ left. got left rest)
-
--- The places past both; past the ends where they do not match.
-unfoldable pub ends_of : List ℕ → List ℕ → Parsed (List ℕ) → Ends
-ends_of s t bad = record { at = length s + 1; pos = length t + 1 }
-ends_of s t (got left rest) = record { at = length s - length rest; pos = length t - length left }
-
--- The two places, where both are places of their texts.
-unfoldable pub ends_at : List ℕ → ℕ → List ℕ → ℕ → Ends
-ends_at s i t j = cond (leb i (length s)) (cond (leb j (length t)) (record { at = i; pos = j }) (ends_of s t bad)) (ends_of s t bad)
 
 -- Two insides byte by byte, nested items by `item`, up to the closing bracket: the bytes after it in the second, and in the first.
 unfoldable pub along : (List ℕ → List ℕ → Parsed (List ℕ)) → ℕ → List ℕ → List ℕ → Parsed (List ℕ)

@@ -1,4 +1,2 @@
 pub mod Filled
-pub mod Claims
-pub mod Agree
-pub mod Covers
+pub mod Items

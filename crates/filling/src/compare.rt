@@ -1,14 +1,15 @@
 // Comparing a filled item with other bytes.
-ghost use Rattle.std.specs.Prelude.{◌≡◌, drop, [], ◌∷◌};
-ghost use Rattle.text.specs.Places.{end_of};
-ghost use Rattle.text.specs.Read.{bad, strip};
-ghost use Rattle.text.specs.Access.{entry_of};
-ghost use Rattle.filling.specs.Filled.{item_depth, hole_depth, itself, filled_by, fill_item, inside, indexed, matches};
-ghost use Rattle.filling.specs.Filled.{ends_of, plain, ends_at};
+ghost use Rattle.std.specs.Prelude.{◌≡◌, ℕ, List, [], ◌∷◌, get_or, length};
+ghost use Rattle.text.specs.Read.{Parsed, strip};
+ghost use Rattle.text.specs.Answers.{parsed, passed};
+ghost use Rattle.clauses.specs.Entries.{texts};
+ghost use Rattle.filling.specs.Filled.{item_depth, hole_depth, read_index, fill_item, indexed, matches, along};
+ghost use Rattle.clauses.specs.Entries.{itself};
+ghost use Rattle.filling.specs.Items.{item_of, beside, listed, by_entries, filled, filler_of, instead_of, compared, Shorter};
 
-use clauses::access::{entry, skip};
+use clauses::access::{skip, split};
 use scan::numbers::number;
-use scan::words::{prefix, word};
+use scan::words::word;
 
 // The brackets of a literal whose terms nest so deep: its own, its atom's, its arguments', and those of its terms.
 pub fn item_depth(depth: u8) -> usize
@@ -24,203 +25,184 @@ pub fn hole_depth(depth: u8) -> usize
     item_depth(depth) + depth as usize
 }
 
-// The places past what was compared, in the clause and in the other text; past their ends where they differ.
+// An item at the front of a clause's bytes, and the entries of the list that fills the clause; None where the clause has no variables.
 #[derive(Clone, Copy)]
-pub struct Ends {
-    pub at: usize,
-    pub pos: usize,
+pub struct Filled<'a> {
+    pub item: &'a [u8],
+    pub entries: Option<&'a [&'a [u8]]>,
 }
 
-// The places past the ends.
-pub fn differ(clause: &[u8], other: &[u8]) -> Ends
-    ensures value { result ≡ ends_of clause.now other.now bad }
-    ensures clause_unchanged { (clause.exit.now ≡ clause.entry.now) × (other.exit.now ≡ other.entry.now) }
-{
-    Ends {
-        at: clause.len() + 1,
-        pos: other.len() + 1,
+impl<'a> Filled<'a> {
+    // Another item of the same clause.
+    pub fn beside(self, item: &'a [u8]) -> Self
+        ensures value { item_of result ≡ beside (item_of self.entry) item.now }
+        ensures self_unchanged { (item_of self.exit ≡ item_of self.entry) × (item.exit.now ≡ item.entry.now) }
+    {
+        Filled {
+            item,
+            entries: self.entries,
+        }
+    }
+
+    // The entries that its clause asks for: none where it has no variables.
+    pub fn listed(self) -> &'a [&'a [u8]]
+        ensures value { texts result.now ≡ listed (item_of self.entry).entries }
+        ensures self_unchanged { item_of self.exit ≡ item_of self.entry }
+    {
+        self.entries.unwrap_or(&[])
     }
 }
 
-// The two places, where both are places of their texts.
-pub fn reach(clause: &[u8], at: usize, other: &[u8], pos: usize) -> Ends
-    ensures value { result ≡ ends_at clause.now at other.now pos }
-    ensures clause_unchanged { (clause.exit.now ≡ clause.entry.now) × (other.exit.now ≡ other.entry.now) }
-{
-    if at > clause.len() {
-        return differ(clause, other);
-    }
-    if pos > other.len() {
-        return differ(clause, other);
-    }
-    Ends { at, pos }
+// The item from which so many bytes are left to the end of its clause is replaced by one of another clause.
+#[derive(Clone, Copy)]
+pub struct Replaced<'a> {
+    pub hole: usize,
+    pub new: Filled<'a>,
 }
 
-// The place past this byte, if it stands at `at`.
-pub fn past(text: &[u8], at: usize, byte: u8) -> usize
-    ensures value { result ≡ end_of text.now (strip (byte ∷ []) (drop at text.now)) }
+// What fills a clause: the entries of a list, and what takes the place of one of its items, if any.
+#[derive(Clone, Copy)]
+pub struct Filling<'a> {
+    pub entries: &'a [&'a [u8]],
+    pub replaced: Option<Replaced<'a>>,
+}
+
+impl<'a> Filling<'a> {
+    // The entries alone.
+    pub fn by(entries: &'a [&'a [u8]]) -> Self
+        ensures value { filler_of result ≡ by_entries (texts entries.now) }
+        ensures entries_unchanged { entries.exit.now ≡ entries.entry.now }
+    {
+        Filling {
+            entries,
+            replaced: None,
+        }
+    }
+
+    // What takes the place of the item that stands here.
+    fn instead(&self, item: &[u8]) -> Option<Filled<'a>>
+        ensures { result ≡ instead_of self.now.replaced (length item.now) }
+    {
+        let replaced = self.replaced?;
+        (replaced.hole == item.len()).then_some(replaced.new)
+    }
+}
+
+// The bytes after this one, if the text begins with it.
+#[tactic(auto, unfolding(text::specs::Read::strip))]
+pub fn past(text: &[u8], byte: u8) -> Option<&[u8]>
+    ensures value { passed result ≡ strip (byte ∷ []) text.now }
     ensures text_unchanged { text.exit.now ≡ text.entry.now }
 {
-    if at >= text.len() {
-        return text.len() + 1;
-    }
-    if text[at] == byte {
-        at + 1
-    } else {
-        text.len() + 1
-    }
+    let (b, rest) = text.split_first()?;
+    (*b == byte).then_some(rest)
 }
 
-// Fewer bytes are compared one by one.
-const MANY: usize = 16;
-
-// The place past the bytes w, if they stand at `at`: most entries are a few bytes.
-fn bytes_past(text: &[u8], at: usize, w: &[u8]) -> usize
-    ensures { result ≡ end_of text.now (strip w.now (drop at text.now)) }
+// A variable's number, after "(v ", and the bytes after the variable.
+#[tactic(auto, unfolding(crate::specs::Filled::read_index))]
+pub fn index(s: &[u8]) -> Option<(usize, &[u8])>
+    ensures value { parsed result ≡ read_index s.now }
+    ensures s_unchanged { s.exit.now ≡ s.entry.now }
 {
-    if w.len() < MANY {
-        return word(text, at, w);
-    }
-    prefix(text, at, w)
+    let (n, rest) = number(s)?;
+    Some((n, past(rest, b')')?))
 }
 
-// A variable of the clause, from its number on: its entry stands in the rest.
-pub fn expect_entry(
-    clause: &[u8],
-    at: usize,
-    line: &[u8],
-    list: &[usize],
-    rest: &[u8],
-    pos: usize,
-) -> Ends
-    ensures value { result ≡ ends_of clause.now rest.now
-        (matches (indexed (entry_of line.now list.now) (drop at clause.now))
-        (drop pos rest.now)) }
-    ensures clause_unchanged { (clause.exit.now ≡ clause.entry.now) × (line.exit.now ≡ line.entry.now) × (rest.exit.now ≡ rest.entry.now) }
+// Entry n of a list; one past the last is empty.
+pub fn entry<'e>(entries: &[&'e [u8]], n: usize) -> &'e [u8]
+    ensures value { result.now ≡ get_or (texts entries.now) n [] }
+    ensures entries_unchanged { entries.exit.now ≡ entries.entry.now }
 {
-    let index = number(clause, at);
-    let end = past(clause, index.end, b')');
-    if end > clause.len() {
-        return differ(clause, rest);
-    }
-    let next = bytes_past(rest, pos, entry(line, list, index.value));
-    if next > rest.len() {
-        return differ(clause, rest);
-    }
-    Ends { at: end, pos: next }
+    entries.get(n).copied().unwrap_or(&[])
 }
 
-// The inside of an item of the clause from `at` on, filled by a list of the line, stands at `pos` of the rest; the items in it are at
-// most so many brackets deep. Variables are compared here, other items by a further call.
-fn expect_inside(
-    clause: &[u8],
-    at: usize,
-    depth: usize,
-    line: &[u8],
-    list: &[usize],
-    rest: &[u8],
-    pos: usize,
-) -> Ends
-    ensures { result ≡ ends_of clause.now rest.now
-        (matches (inside (fill_item (plain line.now list.now) depth) (drop at clause.now))
-        (drop pos rest.now)) }
+// A variable, from its number on: its entry stands in the text.
+#[tactic(auto, unfolding(crate::specs::Filled::indexed, crate::specs::Filled::matches, crate::specs::Items::by_entries))]
+fn expect_entry<'a, 'b>(
+    entries: &[&[u8]],
+    s: &'a [u8],
+    text: &'b [u8],
+) -> Option<(&'a [u8], &'b [u8])>
+    ensures { compared result ≡ matches (indexed (by_entries (texts entries.now)).entry s.now) text.now }
 {
-    let mut i = at;
-    let mut j = pos;
-    while i < clause.len() {
-        let byte = clause[i];
-        if byte == b'(' {
-            if depth == 0 {
-                return differ(clause, rest);
-            }
-            let index = word(clause, i, b"(v ");
-            if index <= clause.len() {
-                let found = expect_entry(clause, index, line, list, rest, j);
-                i = found.at;
-                j = found.pos;
-            } else {
-                let open = past(rest, j, b'(');
-                if open > rest.len() {
-                    return differ(clause, rest);
-                }
-                let found = expect_inside(clause, i + 1, depth - 1, line, list, rest, open);
-                i = found.at;
-                j = found.pos;
-            }
+    let (n, rest) = index(s)?;
+    Some((rest, word(text, entry(entries, n))?))
+}
+
+// Two insides byte by byte, nested items by `nested`, up to the closing bracket: what is left of both.
+pub fn along<'a, 'b, F>(a: &'a [u8], b: &'b [u8], nested: F) -> Option<(&'a [u8], &'b [u8])>
+where
+    F: for<'x, 'y> Fn(&'x [u8], &'y [u8]) -> Option<(&'x [u8], &'y [u8])>,
+    requires callable { F.IsAlwaysCallable nested }
+    requires shorter { (x y r : _) → F.post nested x y r → Shorter x.now r }
+    ensures value { (item : List ℕ → List ℕ → Parsed (List ℕ)) →
+        ((x y r : _) → F.post nested x y r → compared r ≡ item x.now y.now) →
+        compared result ≡ along item (length a.now) a.now b.now }
+    ensures a_unchanged { (a.exit.now ≡ a.entry.now) × (b.exit.now ≡ b.entry.now) }
+{
+    let mut rest = a;
+    let mut left = b;
+    while let Some((byte, after)) = rest.split_first() {
+        if *byte == b'(' {
+            (rest, left) = nested(rest, left)?;
         } else {
-            j = past(rest, j, byte);
-            if j > rest.len() {
-                return differ(clause, rest);
-            }
-            i += 1;
-            if byte == b')' {
-                return Ends { at: i, pos: j };
+            rest = after;
+            left = past(left, *byte)?;
+            if *byte == b')' {
+                return Some((rest, left));
             }
         }
     }
-    differ(clause, rest)
+    None
 }
 
-// The item at `at` of the clause, filled by a list of the line, stands at `pos` of the rest.
-pub fn expect_filled(
-    clause: &[u8],
-    at: usize,
+// The item at the front of a clause's bytes, filled, stands in the text: what is left of both. Brackets nest at most `depth` deep.
+pub fn expect<'a, 'b>(
+    filling: &Filling<'_>,
+    item: &'a [u8],
     depth: usize,
-    line: &[u8],
-    list: &[usize],
-    rest: &[u8],
-    pos: usize,
-) -> Ends
-    ensures value { result ≡ ends_of clause.now rest.now
-        (matches (fill_item (plain line.now list.now) depth (drop at clause.now))
-        (drop pos rest.now)) }
-    ensures clause_unchanged { (clause.exit.now ≡ clause.entry.now) × (line.exit.now ≡ line.entry.now) × (rest.exit.now ≡ rest.entry.now) }
+    text: &'b [u8],
+) -> Option<(&'a [u8], &'b [u8])>
+    ensures value { compared result ≡ matches (fill_item (filler_of filling.now) depth item.now) text.now }
+    ensures filling_unchanged { filling.exit.now ≡ filling.entry.now }
+    ensures item_unchanged { (item.exit.now ≡ item.entry.now) × (text.exit.now ≡ text.entry.now) }
 {
-    if depth == 0 {
-        return differ(clause, rest);
+    let inner = depth.checked_sub(1)?;
+    if let Some(new) = filling.instead(item) {
+        let (_, left) = expect(&Filling::by(new.listed()), new.item, inner, text)?;
+        return Some((skip(item)?, left));
     }
-    let index = word(clause, at, b"(v ");
-    if index <= clause.len() {
-        return expect_entry(clause, index, line, list, rest, pos);
+    if let Some(variable) = word(item, b"(v ") {
+        return expect_entry(filling.entries, variable, text);
     }
-    let i = past(clause, at, b'(');
-    let j = past(rest, pos, b'(');
-    if j > rest.len() {
-        return differ(clause, rest);
-    }
-    expect_inside(clause, i, depth - 1, line, list, rest, j)
+    let inside = past(item, b'(')?;
+    let left = past(text, b'(')?;
+    along(
+        inside,
+        left,
+        |x, y|
+            ensures { compared result ≡ matches (fill_item (filler_of filling.entry.now) inner x.now) y.now }
+        { expect(filling, x, inner, y) },
+    )
 }
 
-// The item at `at` of the clause, as it is, stands at `pos` of the rest.
-fn expect_ground(clause: &[u8], at: usize, rest: &[u8], pos: usize) -> Ends
-    ensures { result ≡ ends_of clause.now rest.now
-        (matches (itself (drop at clause.now)) (drop pos rest.now)) }
+// The item, as it is, stands in the text: what is left of both.
+#[tactic(auto, unfolding(clauses::specs::Entries::itself, crate::specs::Filled::matches))]
+fn expect_bytes<'a, 'b>(item: &'a [u8], text: &'b [u8]) -> Option<(&'a [u8], &'b [u8])>
+    ensures { compared result ≡ matches (itself item.now) text.now }
 {
-    let end = skip(clause, at);
-    if end > clause.len() {
-        return differ(clause, rest);
-    }
-    reach(clause, end, rest, prefix(rest, pos, &clause[at..end]))
+    let (bytes, rest) = split(item)?;
+    Some((rest, word(text, bytes)?))
 }
 
-// The item at `at` of the clause, filled by a list of the line, stands at `pos` of the rest. Where the list has no places the clause has
-// no variables, and is its own filled form.
-pub fn stands(
-    clause: &[u8],
-    at: usize,
-    depth: usize,
-    line: &[u8],
-    list: &[usize],
-    rest: &[u8],
-    pos: usize,
-) -> Ends
-    ensures value { result ≡ ends_of clause.now rest.now
-        (matches (filled_by line.now list.now depth (drop at clause.now))
-        (drop pos rest.now)) }
-    ensures clause_unchanged { (clause.exit.now ≡ clause.entry.now) × (line.exit.now ≡ line.entry.now) × (rest.exit.now ≡ rest.entry.now) }
+// The item, filled, stands in the text: what is left of both. A clause without variables is its own filled form.
+#[tactic(auto, unfolding(crate::specs::Items::filled_in))]
+pub fn stands<'a, 'b>(x: Filled<'a>, depth: usize, text: &'b [u8]) -> Option<(&'a [u8], &'b [u8])>
+    ensures value { compared result ≡ matches (filled (item_of x.entry) depth) text.now }
+    ensures x_unchanged { (item_of x.exit ≡ item_of x.entry) × (text.exit.now ≡ text.entry.now) }
 {
-    if list.len() == 0 {
-        return expect_ground(clause, at, rest, pos);
+    match x.entries {
+        None => expect_bytes(x.item, text),
+        Some(entries) => expect(&Filling::by(entries), x.item, depth, text),
     }
-    expect_filled(clause, at, depth, line, list, rest, pos)
 }

@@ -1,5 +1,5 @@
 -- From satisfied inputs to every clause: what a list of steps gives is entailed.
-use Prim.Native.Nat.{ℕ, zero, suc, ◌<◌, ◌+◌}
+use Prim.Native.Nat.{ℕ, zero, suc, ◌<◌}
 use mathlib.Core.Bool.{Bool, true, false}
 use mathlib.Core.List.{List, [], ◌∷◌, ◌++◌, map, append-nil, append_assoc}
 use mathlib.Core.Path.{◌≡◌, refl, ap, subst}

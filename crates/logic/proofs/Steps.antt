@@ -3,15 +3,15 @@
 use Prim.Native.Nat.{ℕ, zero, suc, ◌+◌}
 use mathlib.Core.Bool.{Bool, true, false, cond}
 use mathlib.Core.List.{List, [], ◌∷◌}
-use mathlib.Core.Logic.{◌⊎◌, inl, inr, ◌↔◌, ite}
-use mathlib.Core.Path.{◌≡◌, refl, ap, subst, ◌∙◌}
+use mathlib.Core.Logic.{◌↔◌, ite}
+use mathlib.Core.Path.{◌≡◌, refl, sym, ap, subst, ◌∙◌}
 use native.Mathlib.Omega.{arith}
 use lib.Dec.{T}
-use Rattle.logic.specs.declared.Judged.{Judged}
-use Rattle.logic.specs.declared.Judged.TheVariants.{Passed, NoParent, WrongNumber, Disagrees, WrongClaim}
+use Rattle.std.specs.Prelude.{Ok, Err}
+use Rattle.logic.specs.declared.Check.{Check}
 use Rattle.logic.specs.Syntax.{Clause, Step}
 use Rattle.logic.specs.Equality.{clause?}
-use Rattle.logic.specs.StepChecks.{AllPass, FailsFirst, parent_a, parent_b, parents_below, numbers_right, StepInfers, Shaped, Agrees, Claims, step_checks, Given, judged_number}
+use Rattle.logic.specs.StepChecks.{AllPass, FailsFirst, parent_a, parent_b, parents_below, numbers_right, StepInfers, Shaped, Agrees, Claims, step_checks, Given, check_number, Checked}
 use Rattle.logic.specs.Rules.{Agreement, Holds}
 use Rattle.logic.specs.Judge.{Conclusion, misshapen, concludes, conclusion, holds?, judge_conclusion, judge}
 use Rattle.logic.proofs.Table.{infers→concludes, concludes→infers}
@@ -31,9 +31,42 @@ pass_or_fail n [] p q = q
 pass_or_fail zero (P ∷ Ps) p q = q p.0
 pass_or_fail (suc n) (P ∷ Ps) p q = pass_or_fail n Ps p.1 q.1
 
--- An answer means: passed, and all checks pass; or check 7 + n is the first to fail.
-unfoldable pub JudgeMeans : Judged → List (Type 0) → Type 0
-JudgeMeans w Ps = ((w ≡ Passed) × AllPass Ps) ⊎ ((n : ℕ) × (judged_number w ≡ 7 + n) × FailsFirst n Ps)
+-- An answer means, of checks that are numbered from `base`: all pass; or this one is the first to fail.
+unfoldable pub Fails : ℕ → Checked → List (Type 0) → Type 0
+Fails base (Ok u) Ps = AllPass Ps
+Fails base (Err c) Ps = (n : ℕ) × (check_number c ≡ base + n) × FailsFirst n Ps
+
+-- A check is told by its number.
+nth_check : ℕ → Check
+nth_check zero = Check.Size
+nth_check (suc zero) = Check.Size
+nth_check (suc (suc zero)) = Check.Form
+nth_check (suc (suc (suc zero))) = Check.Order
+nth_check (suc (suc (suc (suc zero)))) = Check.Constant
+nth_check (suc (suc (suc (suc (suc zero))))) = Check.Limit
+nth_check (suc (suc (suc (suc (suc (suc zero)))))) = Check.Symbol
+nth_check (suc (suc (suc (suc (suc (suc (suc zero))))))) = Check.Parents
+nth_check (suc (suc (suc (suc (suc (suc (suc (suc zero)))))))) = Check.Numbers
+nth_check (suc (suc (suc (suc (suc (suc (suc (suc (suc zero))))))))) = Check.Shape
+nth_check (suc (suc (suc (suc (suc (suc (suc (suc (suc (suc zero)))))))))) = Check.Agreement
+nth_check (suc (suc (suc (suc (suc (suc (suc (suc (suc (suc (suc n))))))))))) = Check.Claim
+
+check_back : (c : Check) → nth_check (check_number c) ≡ c
+unfolding nth_check check_number
+check_back Check.Size = refl
+check_back Check.Form = refl
+check_back Check.Order = refl
+check_back Check.Constant = refl
+check_back Check.Limit = refl
+check_back Check.Symbol = refl
+check_back Check.Parents = refl
+check_back Check.Numbers = refl
+check_back Check.Shape = refl
+check_back Check.Agreement = refl
+check_back Check.Claim = refl
+
+pub same_check : (c d : Check) → check_number c ≡ check_number d → c ≡ d
+same_check c d e = sym (check_back c) ∙ (ap nth_check e ∙ check_back d)
 
 -- What the table says of a step is one thing.
 module _ (cs : List Clause) (s : Step) where
@@ -71,51 +104,46 @@ module _ (cs : List Clause) (s : Step) where
 
   -- The answer and its meaning, one check after the other.
   judge_claim : {g : Agreement} {c : Clause} → T (parents_below cs s) → T (numbers_right cs s) → StepInfers cs s g c →
-      (h : Dec (Holds g)) (e : Dec (c ≡ s.claim)) → JudgeMeans (ite h (ite e Passed WrongClaim) Disagrees) (step_checks cs s)
-  unfolding JudgeMeans step_checks FailsFirst Shaped judged_number Agrees Claims
+      (h : Dec (Holds g)) (e : Dec (c ≡ s.claim)) → Fails 7 (ite h (ite e (Ok tt) (Err Check.Claim)) (Err Check.Agreement)) (step_checks cs s)
+  unfolding Fails step_checks FailsFirst Shaped check_number Agrees Claims
   judge_claim {g} p q w (yes h) (yes e) =
-      inl (refl, given→all (record { parents = p; numbers = q; agreement = g; infers = subst (λ c. StepInfers cs s g c) e w; holds = h }))
-  judge_claim p q w (yes h) (no n) = inr (4, refl, (p, (q, ((_, _, w), (agrees w h, λ k. n (k _ _ w))))))
-  judge_claim p q w (no n) e = inr (3, refl, (p, (q, ((_, _, w), λ k. n (k _ _ w)))))
+      given→all (record { parents = p; numbers = q; agreement = g; infers = subst (λ c. StepInfers cs s g c) e w; holds = h })
+  judge_claim p q w (yes h) (no n) = (4, refl, (p, (q, ((_, _, w), (agrees w h, λ k. n (k _ _ w))))))
+  judge_claim p q w (no n) e = (3, refl, (p, (q, ((_, _, w), λ k. n (k _ _ w)))))
 
   judge_conclusion_lem : T (parents_below cs s) → T (numbers_right cs s) → (o : Conclusion) → conclusion cs s ≡ o →
-      JudgeMeans (judge_conclusion o s.claim) (step_checks cs s)
-  unfolding JudgeMeans step_checks FailsFirst Shaped judged_number judge_conclusion
-  judge_conclusion_lem p q misshapen e = inr (2, refl, (p, (q, λ w. let h = infers_conclusion w.2 in let z : ◌≡◌ {A = ℕ} 0 1 = cc in absurd (omega arith))))
+      Fails 7 (judge_conclusion o s.claim) (step_checks cs s)
+  unfolding Fails step_checks FailsFirst Shaped check_number judge_conclusion
+  judge_conclusion_lem p q misshapen e = (2, refl, (p, (q, λ w. let h = infers_conclusion w.2 in let z : ◌≡◌ {A = ℕ} 0 1 = cc in absurd (omega arith))))
   judge_conclusion_lem p q (concludes g c) e = judge_claim p q (conclusion_infers e) (holds? g) (clause? c s.claim)
 
-  pub judge_means : JudgeMeans (judge cs s) (step_checks cs s)
-  unfolding judge JudgeMeans step_checks FailsFirst judged_number
+  pub judge_means : Fails 7 (judge cs s) (step_checks cs s)
+  unfolding judge Fails step_checks FailsFirst check_number
   judge_means = go (parents_below cs s) refl (numbers_right cs s) refl
     where
       go : (p : Bool) → parents_below cs s ≡ p → (q : Bool) → numbers_right cs s ≡ q →
-          JudgeMeans (cond p (cond q (judge_conclusion (conclusion cs s) s.claim) WrongNumber) NoParent) (step_checks cs s)
+          Fails 7 (cond p (cond q (judge_conclusion (conclusion cs s) s.claim) (Err Check.Numbers)) (Err Check.Parents)) (step_checks cs s)
       go true e true h = judge_conclusion_lem (rw e tt) (rw h tt) (conclusion cs s) refl
-      go true e false h = inr (1, refl, (rw e tt, λ t. rw h at t))
-      go false e q h = inr (0, refl, λ t. rw e at t)
+      go true e false h = (1, refl, (rw e tt, λ t. rw h at t))
+      go false e q h = (0, refl, λ t. rw e at t)
 
   -- "A step passes checks 7 to 11 exactly when the rules give its claim from its parents by its numbers under its two lists."
-  pub passed_exactly : (judge cs s ≡ Passed) ↔ Given cs s
-  unfolding JudgeMeans judged_number
-  passed_exactly = (λ e. there e judge_means, λ w. back w judge_means)
+  pub passed_exactly : (judge cs s ≡ Ok tt) ↔ Given cs s
+  unfolding Fails
+  passed_exactly = (λ e. all→given (subst (λ w. Fails 7 w (step_checks cs s)) e judge_means), λ g. back g (judge cs s) judge_means)
     where
-      there : judge cs s ≡ Passed → JudgeMeans (judge cs s) (step_checks cs s) → Given cs s
-      there e (inl w) = all→given w.1
-      there e (inr w) = let z : judged_number Passed ≡ 7 + w.0 = (rw e at w).1 in absurd (omega arith)
+      back : Given cs s → (w : Checked) → Fails 7 w (step_checks cs s) → w ≡ Ok tt
+      back g (Ok tt) m = refl
+      back g (Err c) m = absurd (pass_or_fail m.0 (step_checks cs s) (given→all g) m.2)
 
-      back : Given cs s → JudgeMeans (judge cs s) (step_checks cs s) → judge cs s ≡ Passed
-      back g (inl w) = w.0
-      back g (inr w) = absurd (pass_or_fail w.0 (step_checks cs s) (given→all g) w.2)
-
-  -- Check 7 + n is the answer exactly when it is the first of the five to fail.
-  pub failed_exactly : (n : ℕ) → (judged_number (judge cs s) ≡ 7 + n) ↔ FailsFirst n (step_checks cs s)
-  unfolding JudgeMeans judged_number
-  failed_exactly n = (λ e. there e judge_means, λ f. back f judge_means)
+  -- The check of number 7 + n is the answer exactly when it is the first of the five to fail.
+  pub failed_exactly : (c : Check) (n : ℕ) → check_number c ≡ 7 + n → (judge cs s ≡ Err c) ↔ FailsFirst n (step_checks cs s)
+  unfolding Fails
+  failed_exactly c n e = (λ j. there (subst (λ w. Fails 7 w (step_checks cs s)) j judge_means), λ f. back f (judge cs s) judge_means)
     where
-      there : judged_number (judge cs s) ≡ 7 + n → JudgeMeans (judge cs s) (step_checks cs s) → FailsFirst n (step_checks cs s)
-      there e (inl w) = let z : judged_number Passed ≡ 7 + n = rw w.0 at e in absurd (omega arith)
-      there e (inr w) = let z : w.0 ≡ n = omega (arith, w.1) in rw (← z) w.2
+      there : Fails 7 (Err c) (step_checks cs s) → FailsFirst n (step_checks cs s)
+      there m = let z : m.0 ≡ n = omega (arith, m.1, e) in rw (← z) m.2
 
-      back : FailsFirst n (step_checks cs s) → JudgeMeans (judge cs s) (step_checks cs s) → judged_number (judge cs s) ≡ 7 + n
-      back f (inl w) = absurd (pass_or_fail n (step_checks cs s) w.1 f)
-      back f (inr w) = w.1 ∙ ap (λ m. 7 + m) (first_unique w.0 n (step_checks cs s) w.2 f)
+      back : FailsFirst n (step_checks cs s) → (w : Checked) → Fails 7 w (step_checks cs s) → w ≡ Err c
+      back f (Ok u) m = absurd (pass_or_fail n (step_checks cs s) m f)
+      back f (Err d) m = let z = first_unique m.0 n (step_checks cs s) m.2 f in ap Err (same_check d c (omega (arith, m.1, e, z)))

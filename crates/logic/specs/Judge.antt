@@ -1,6 +1,6 @@
 -- Nothing in this file has to be believed: the rule table as a function, and checks 7 to 11 computed by it. That they are computed right is
 -- proved: `passed_exactly` and `failed_exactly` (proofs/Steps), over `infers→concludes` and `concludes→infers` (proofs/Table).
-use Rattle.std.specs.Prelude.{ℕ, zero, suc, Bool, cond, List, [], ◌∷◌, ◌++◌, ◌≡◌, eqb}
+use Rattle.std.specs.Prelude.{ℕ, zero, suc, Bool, cond, List, [], ◌∷◌, ◌++◌, ◌≡◌, eqb, Ok, Err}
 use Rattle.std.proofs.Common.{inl, inr, ⊎_elim}
 use Rattle.std.proofs.Math.Logic.{ite}
 use Rattle.logic.specs.declared.Sign.TheVariants.{Positive, Negative}
@@ -9,15 +9,14 @@ use Rattle.logic.specs.declared.Link.TheVariants.{Eq, Mem, Sub}
 use Rattle.logic.specs.declared.Arrow.{Arrow}
 use Rattle.logic.specs.declared.Rule.{Rule}
 use Rattle.logic.specs.declared.Rule.TheVariants.{Refl, Res, Fac, Par, Acy, Tra, Inc, Inh, Inp, Out, Sca, Eli}
-use Rattle.logic.specs.declared.Judged.{Judged}
-use Rattle.logic.specs.declared.Judged.TheVariants.{Passed, NoParent, WrongNumber, Misshapen, Disagrees, WrongClaim}
+use Rattle.logic.specs.declared.Check.{Check}
 use Rattle.logic.specs.Syntax.{Term, Terms, nil, cons, Result, value, none, part, Atom, link, obj, arrows, method, Literal, lit, Clause, Step}
 use Rattle.logic.specs.Equality.{link?, terms?, atom?, call?, clause?}
 use Rattle.logic.specs.Fill.{Substitution, fill_clause}
 use Rattle.logic.specs.Occurrence.{Search, past, found, find_literal}
 use Rattle.logic.specs.Rules.{bare, Covers, Agreement, always, equal, covering, call, alike}
 use Rattle.logic.specs.Rules.{Holds, signature, scalar, plus, one, Parent, filled}
-use Rattle.logic.specs.StepChecks.{parent_a, parent_b, parents_below, numbers_right}
+use Rattle.logic.specs.StepChecks.{parent_a, parent_b, parents_below, numbers_right, Checked}
 
 -- The rule table as a function: a literal, number or result is not as the shape says, or the row's agreement and clause.
 pub data Conclusion : Type 0 where
@@ -176,10 +175,12 @@ holds? (equal ts us) = terms? ts us
 holds? (covering x y) = covers? x y (atom? x y) (atom? (bare x) y)
 holds? (alike x y) = call? x y
 
--- Checks 7 to 11 of a step, in order.
-unfoldable pub judge_conclusion : Conclusion → Clause → Judged
-judge_conclusion misshapen claim = Misshapen
-judge_conclusion (concludes g c) claim = ite (holds? g) (ite (clause? c claim) Passed WrongClaim) Disagrees
+-- Checks 7 to 11 of a step, in order: the first that fails, if any.
+unfoldable pub judge_conclusion : Conclusion → Clause → Checked
+judge_conclusion misshapen claim = Err Check.Shape
+judge_conclusion (concludes g c) claim = ite (holds? g) (ite (clause? c claim) (Ok tt) (Err Check.Claim)) (Err Check.Agreement)
 
-unfoldable pub judge : List Clause → Step → Judged
-judge cs s = cond (parents_below cs s) (cond (numbers_right cs s) (judge_conclusion (conclusion cs s) s.claim) WrongNumber) NoParent
+unfoldable pub judge : List Clause → Step → Checked
+judge cs s =
+    cond (parents_below cs s)
+    (cond (numbers_right cs s) (judge_conclusion (conclusion cs s) s.claim) (Err Check.Numbers)) (Err Check.Parents)

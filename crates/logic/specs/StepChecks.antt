@@ -1,7 +1,6 @@
 -- Checks in order, each a predicate that says that the check is passed (V3); checks 7 to 11 of a step (V17 to V21).
-use Rattle.std.specs.Prelude.{ℕ, zero, suc, Bool, cond, not, ◌&&◌, ◌||◌, List, [], ◌∷◌, ◌≡◌, length, get_or, T, eqb, ltb}
-use Rattle.logic.specs.declared.Judged.{Judged}
-use Rattle.logic.specs.declared.Judged.TheVariants.{Passed, NoParent, WrongNumber, Misshapen, Disagrees, WrongClaim}
+use Rattle.std.specs.Prelude.{ℕ, zero, suc, Bool, cond, not, ◌&&◌, ◌||◌, List, [], ◌∷◌, ◌≡◌, length, get_or, T, eqb, ltb, Result, Ok, Err}
+use Rattle.logic.specs.declared.Check.{Check}
 use Rattle.logic.specs.Syntax.{Rule, Clause, Step}
 use Rattle.logic.specs.Terms.{count}
 use Rattle.logic.specs.Each.{width}
@@ -91,11 +90,25 @@ pub record Given (cs : List Clause) (s : Step) : Type 0 where
   pub infers : StepInfers cs s agreement s.claim
   pub holds : Holds agreement
 
--- V17 to V21: the number of the check that fails; 0 where none does.
-unfoldable pub judged_number : Judged → ℕ
-judged_number Passed = 0
-judged_number NoParent = 7
-judged_number WrongNumber = 8
-judged_number Misshapen = 9
-judged_number Disagrees = 10
-judged_number WrongClaim = 11
+-- V11 to V21: the number of each check.
+unfoldable pub check_number : Check → ℕ
+check_number Check.Size = 1
+check_number Check.Form = 2
+check_number Check.Order = 3
+check_number Check.Constant = 4
+check_number Check.Limit = 5
+check_number Check.Symbol = 6
+check_number Check.Parents = 7
+check_number Check.Numbers = 8
+check_number Check.Shape = 9
+check_number Check.Agreement = 10
+check_number Check.Claim = 11
+
+-- V3: "the first check that it fails", or none.
+abbrev pub Checked : Type 0
+Checked = Result (Unit {0}) Check
+
+-- What is told of what passes; a check that fails stays the answer.
+abbrev pub if_passed : {A : Type 0} → Checked → A → Result A Check
+if_passed (Ok u) x = Ok x
+if_passed (Err c) x = Err c

@@ -2,8 +2,8 @@
 use Prim.Native.Nat.{ℕ, zero, suc, ◌<◌}
 use mathlib.Core.Bool.{Bool, true, false, ◌&&◌, ◌||◌}
 use mathlib.Core.List.{List, [], ◌∷◌, ◌++◌, map, append-nil, append_assoc}
-use mathlib.Core.Logic.{inl, inr, ⊎_elim}
-use mathlib.Core.Path.{◌≡◌, refl}
+use mathlib.Core.Logic.{inl, inr}
+use mathlib.Core.Path.{◌≡◌, refl, subst}
 use native.Mathlib.Omega.{arith}
 use lib.Dec.{T, eqb}
 use lib.ListN.{length, take, drop, get_or}
@@ -26,7 +26,9 @@ use Rattle.meaning.specs.Checks.{readings, step_part, checks_of, checks_at, stat
 use Rattle.meaning.specs.Means.{FirstEmpty}
 use Rattle.meaning.specs.Answer.{failure}
 use Rattle.meaning.specs.Guarantee.{chosen}
-use Rattle.meaning.proofs.Meaning.{Fails, line_fails}
+use Rattle.std.specs.Prelude.{Ok}
+use Rattle.logic.proofs.Steps.{Fails}
+use Rattle.meaning.proofs.Meaning.{line_fails}
 
 -- The inputs are clauses over the table, and each step is given by the rules, its lists and claim over the table.
 pub record Good (st : State) : Type 0 where
@@ -84,10 +86,10 @@ pub good_fresh : Good fresh
 unfolding fresh AllGiven each_clause
 good_fresh = record { inputs_over = λ n. tt; given = tt }
 
-pub good_after : (F : Figures) (st : State) (r : Reading) → Good st → failure st r ≡ 0 → Good (after st r)
+pub good_after : (F : Figures) (st : State) (r : Reading) → Good st → failure st r ≡ Ok tt → Good (after st r)
 unfolding after Fails
 good_after F st no_form g z = g
-good_after F st (form l) g z = ⊎_elim (λ h. good_line F st l g h.1) (λ h. let e = h.1 in absurd (omega arith)) (line_fails F st (form l))
+good_after F st (form l) g z = good_line F st l g (subst (λ w. Fails 2 w (checks_of st (form l))) z (line_fails F st (form l)))
 
 pub accepted_good : (F : Figures) (text : List ℕ) → Accepted F text → Good (state_of F text)
 unfolding state_of fresh AllGiven each_clause

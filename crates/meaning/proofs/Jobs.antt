@@ -6,8 +6,6 @@ use mathlib.Core.List.{List, [], ◌∷◌, ◌++◌, map, map-append, append-ni
 use mathlib.Core.Logic.{◌↔◌}
 use mathlib.Core.Path.{◌≡◌, refl, sym, ap, subst, ◌∙◌}
 use native.Mathlib.Omega.{arith}
-use native.Mathlib.Decide.{ℕ_discrete}
-use borrow.Author.Tests.{eq-eqb, ne_eqb}
 use lib.Dec.{T}
 use lib.ListN.{length}
 use Rattle.logic.specs.Syntax.{Atom}
@@ -18,32 +16,31 @@ use Rattle.text.specs.declared.Figures.{Figures}
 use Rattle.text.proofs.Lines.{AllEnded, split_append}
 use Rattle.text.proofs.Tests.{holds}
 use Rattle.state.specs.State.{State, fresh, after, state_after}
+use Rattle.std.specs.Prelude.{Ok, Err}
+use Rattle.logic.specs.declared.Check.{Check}
+use Rattle.logic.specs.StepChecks.{Checked}
 use Rattle.meaning.specs.declared.Verdict.{Verdict}
 use Rattle.meaning.specs.declared.Verdict.TheVariants.{Refused}
 use Rattle.meaning.specs.Checks.{readings, too_large, state_of, Accepted}
 use Rattle.meaning.specs.Means.{Means}
-use Rattle.meaning.specs.Answer.{failure, read_on, verdict, rests_in, rests, jointly}
+use Rattle.meaning.specs.Answer.{failure, refused_or, read_on, verdict, rests_in, rests, jointly}
 use Rattle.meaning.specs.Guarantee.{is_accepted, SoundFor}
 use Rattle.meaning.specs.Job.{JobMeans, JobWholeClaim, JobGuarantee}
 use Rattle.meaning.proofs.Guaranteed.{accepted_exactly, answer_exactly, whole_claim}
 
 -- Readings in a row: where the first are accepted, the others are read on from the state after them.
 module _ (st : State) (line : ℕ) (r : Reading) (rs : List Reading) (a : T (is_accepted (read_on st line (r ∷ rs)))) where
-  refused_first : (failure st r ≡ 0 → ⊥) → read_on st line (r ∷ rs) ≡ Refused (failure st r) line
-  unfolding read_on
-  refused_first n = rw (ne_eqb (failure st r) 0 n)
-
-  passes_first : failure st r ≡ 0
-  unfolding is_accepted
-  passes_first = go (ℕ_discrete (failure st r) 0)
+  passes_first : failure st r ≡ Ok tt
+  unfolding is_accepted read_on refused_or
+  passes_first = go (failure st r) a
     where
-      go : Dec (failure st r ≡ 0) → failure st r ≡ 0
-      go (yes e) = e
-      go (no n) = absurd (subst (λ (v : Verdict). T (is_accepted v)) (refused_first n) a)
+      go : (w : Checked) → T (is_accepted (refused_or w line (read_on (after st r) (suc line) rs))) → w ≡ Ok tt
+      go (Ok u) h = refl
+      go (Err c) h = absurd h
 
   goes_on_lem : (qs : List Reading) → read_on st line (r ∷ qs) ≡ read_on (after st r) (suc line) qs
-  unfolding read_on
-  goes_on_lem qs = rw (eq-eqb (failure st r) 0 passes_first)
+  unfolding read_on refused_or
+  goes_on_lem qs = rw passes_first refl
 
   accepted_on : T (is_accepted (read_on (after st r) (suc line) rs))
   accepted_on = subst (λ (v : Verdict). T (is_accepted v)) (goes_on_lem rs) a
@@ -52,7 +49,7 @@ all_ended : (F : Figures) (st : State) (line : ℕ) (raws : List Raw) → T (is_
 unfolding AllEnded read_raw failure
 all_ended F st line [] a = tt
 all_ended F st line (ended w ∷ raws) a = all_ended F (after st (read_raw F.depth (ended w))) (suc line) raws (accepted_on st line (read_raw F.depth (ended w)) (map (read_raw F.depth) raws) a)
-all_ended F st line (unended w ∷ raws) a = absurd (omega (arith, passes_first st line no_form (map (read_raw F.depth) raws) a))
+all_ended F st line (unended w ∷ raws) a = let e = passes_first st line no_form (map (read_raw F.depth) raws) a in absurd (cc)
 
 read_append : (st : State) (line : ℕ) (rs qs : List Reading) → T (is_accepted (read_on st line rs)) → read_on st line (rs ++ qs) ≡ read_on (state_after st rs) (line + length rs) qs
 unfolding state_after
@@ -166,11 +163,11 @@ module _ (F : Figures) (base job : List ℕ) where
       (v ≡ verdict F (jointly F base job)) × ((ns ≡ rests F (jointly F base job)) × (JobMeans F base job v ns × (JobGuarantee F base job v ns × ((base ≡ base) × (job ≡ job)))))
   job_answered v ns e f = let m = (job_exactly v ns).0 (sym e, sym f) in (e, (f, (m, (job_guaranteed v ns m, (refl, refl)))))
 
-pub refused_base : (F : Figures) (base : List ℕ) (n l : ℕ) → verdict F base ≡ Refused n l → (job : List ℕ) → JobMeans F base job (Refused n l) []
+pub refused_base : (F : Figures) (base : List ℕ) (c : Check) (l : ℕ) → verdict F base ≡ Refused c l → (job : List ℕ) → JobMeans F base job (Refused c l) []
 unfolding is_accepted rests rests_in
-refused_base F base n l e job =
+refused_base F base c l e job =
     let j = jointly_alone F base job (ap is_accepted e) in
-    (job_exactly F base job (Refused n l) []).0 (ap (verdict F) j ∙ e, rw (j, e))
+    (job_exactly F base job (Refused c l) []).0 (ap (verdict F) j ∙ e, rw (j, e))
 
 pub nothing_more : (F : Figures) (text : List ℕ) {v : Verdict} {ns : List ℕ} → verdict F text ≡ v → rests F text ≡ ns → JobMeans F text [] v ns
 nothing_more F text {v} {ns} e f = let j = jointly_nothing F text in (job_exactly F text [] v ns).0 (ap (verdict F) j ∙ e, ap (rests F) j ∙ f)

@@ -6,14 +6,15 @@ use mathlib.Core.List.{List, [], ◌∷◌, cons≢nil}
 use mathlib.Core.Logic.{◌⊎◌, inl, inr, ◌↔◌}
 use mathlib.Core.Path.{◌≡◌, refl, sym, ap, ap₂, subst, ◌∙◌}
 use native.Mathlib.Omega.{arith}
-use borrow.Author.Tests.{ne_eqb, ltb-true, ltb-false}
+use borrow.Author.Tests.{ltb-true, ltb-false}
 use native.Mathlib.Decide.{dec_lt}
-use lib.Dec.{T, T_not, eqb, ltb}
+use lib.Dec.{T, T_not, ltb}
 use lib.ListN.{length}
 use Rattle.logic.specs.Syntax.{Clause, Line, sym as sym_line, input, by}
-use Rattle.logic.specs.StepChecks.{AllPass, FailsFirst, step_checks, judged_number}
-use Rattle.logic.specs.Judge.{judge}
-use Rattle.logic.proofs.Steps.{first_unique, pass_or_fail, JudgeMeans, judge_means}
+use Rattle.std.specs.Prelude.{Ok, Err}
+use Rattle.logic.specs.declared.Check.{Check}
+use Rattle.logic.specs.StepChecks.{AllPass, FailsFirst, check_number, Checked}
+use Rattle.logic.proofs.Steps.{first_unique, pass_or_fail, Fails, same_check, judge_means}
 use Rattle.text.specs.Form.{Reading, form, no_form}
 use Rattle.text.specs.declared.Figures.{Figures}
 use Rattle.state.specs.State.{State, fresh, clauses, ordered, constant_ready, within_limits, symbols_declared, line_checks, has_constant, after, state_after}
@@ -21,40 +22,38 @@ use Rattle.state.specs.Failure.{line_failure}
 use Rattle.meaning.specs.declared.Verdict.{Verdict}
 use Rattle.meaning.specs.declared.Verdict.TheVariants.{Refuted, Open, Refused}
 use Rattle.meaning.specs.Checks.{readings, too_large, step_part, checks_of, checks_at, state_of, table_of, clauses_of, Accepted}
-use Rattle.meaning.specs.Answer.{step_failure, failure, is_nil, first_empty, accepted_as, finish, read_on, verdict}
+use Rattle.meaning.specs.Answer.{step_failure, failure, is_nil, first_empty, accepted_as, finish, refused_or, read_on, verdict}
 use Rattle.meaning.specs.Means.{FirstEmpty, NoneEmpty, Refusal, large, at_line, at_end, MeansVerdict}
 
--- The number of a line's failure: 0 and all checks pass, or 2 + n and check n, counted from 0, is the first to fail.
-unfoldable pub Fails : ℕ → ℕ → List (Type 0) → Type 0
-Fails base w Ps = ((w ≡ 0) × AllPass Ps) ⊎ ((n : ℕ) × (w ≡ base + n) × FailsFirst n Ps)
-
--- One check more in front.
-before : (base w : ℕ) (b : Bool) (Ps : List (Type 0)) → Fails (suc base) w Ps → Fails base (cond b w base) (T b ∷ Ps)
+-- One check more in front, by its number.
+before : (base : ℕ) (w : Checked) (b : Bool) (c : Check) (Ps : List (Type 0)) → check_number c ≡ base → Fails (suc base) w Ps → Fails base (cond b w (Err c)) (T b ∷ Ps)
 unfolding Fails AllPass FailsFirst
-before base w true Ps (inl h) = inl (h.0, (tt, h.1))
-before base w true Ps (inr h) = inr (suc h.0, h.1 ∙ omega arith, (tt, h.2))
-before base w false Ps h = inr (0, omega arith, λ t. t)
+before base (Ok u) true c Ps e h = (tt, h)
+before base (Err d) true c Ps e h = (suc h.0, h.1 ∙ omega arith, (tt, h.2))
+before base w false c Ps e h = (0, omega arith, λ t. t)
 
 step_fails : (st : State) (l : Line) → Fails 7 (step_failure st l) (step_part st l)
-unfolding Fails step_failure step_part AllPass JudgeMeans judged_number
-step_fails st (sym_line k) = inl (refl, tt)
-step_fails st (input c) = inl (refl, tt)
-step_fails st (by s) = go (judge_means (clauses st) s)
-  where
-    go : JudgeMeans (judge (clauses st) s) (step_checks (clauses st) s) → Fails 7 (judged_number (judge (clauses st) s)) (step_checks (clauses st) s)
-    go (inl h) = inl (ap judged_number h.0, h.1)
-    go (inr h) = inr h
+unfolding Fails step_failure step_part AllPass
+step_fails st (sym_line k) = tt
+step_fails st (input c) = tt
+step_fails st (by s) = judge_means (clauses st) s
 
 pub line_fails : (F : Figures) (st : State) (r : Reading) → Fails 2 (failure st r) (checks_of st r)
-unfolding failure checks_of line_failure line_checks Fails FailsFirst
-line_fails F st no_form = inr (0, refl, λ t. t)
-line_fails F st (form l) = before 2 _ true _ (before 3 _ (ordered st l) _ (before 4 _ (constant_ready st l) _ (before 5 _ (within_limits st l) _ (before 6 _ (symbols_declared st l) _ (step_fails st l)))))
+unfolding failure checks_of line_failure line_checks Fails FailsFirst check_number
+line_fails F st no_form = (0, refl, λ t. t)
+line_fails F st (form l) =
+    before 2 _ true Check.Form _ refl
+    (before 3 _ (ordered st l) Check.Order _ refl
+    (before 4 _ (constant_ready st l) Check.Constant _ refl
+    (before 5 _ (within_limits st l) Check.Limit _ refl
+    (before 6 _ (symbols_declared st l) Check.Symbol _ refl (step_fails st l)))))
 
 -- What reading on from a state answers: the end is reached and every line passes, or some line is the first to fail.
 unfoldable Reads : Figures → State → ℕ → List Reading → Verdict → Type 0
 Reads F st line rs v =
     ((v ≡ finish (state_after st rs)) × ((m : ℕ) → AllPass (checks_at st rs m)))
-    ⊎ ((n : ℕ) × (m : ℕ) × (v ≡ Refused (2 + n) (line + m)) × FailsFirst n (checks_at st rs m) × ((i : ℕ) → i < m → AllPass (checks_at st rs i)))
+    ⊎ ((c : Check) × (n : ℕ) × (m : ℕ) × (v ≡ Refused c (line + m)) × (check_number c ≡ 2 + n) × FailsFirst n (checks_at st rs m)
+    × ((i : ℕ) → i < m → AllPass (checks_at st rs i)))
 
 module _ (F : Figures) (st : State) (r : Reading) (rs : List Reading) where
   pub all_lines : AllPass (checks_of st r) → ((m : ℕ) → AllPass (checks_at (after st r) rs m)) → (m : ℕ) → AllPass (checks_at st (r ∷ rs) m)
@@ -71,22 +70,22 @@ module _ (F : Figures) (st : State) (r : Reading) (rs : List Reading) where
   passed_line : (line : ℕ) (v : Verdict) → AllPass (checks_of st r) → Reads F (after st r) (suc line) rs v → Reads F st line (r ∷ rs) v
   unfolding Reads checks_at state_after
   passed_line line v h (inl k) = inl (k.0, all_lines h k.1)
-  passed_line line v h (inr k) =
-      inr (k.0, suc k.1, k.2 ∙ ap (Refused (2 + k.0)) (omega arith), k.3, lines_before_lem k.1 h k.4)
+  passed_line line v h (inr (c, n, m, e, d, f, b)) =
+      inr (c, n, suc m, e ∙ ap (Refused c) (omega arith), d, f, lines_before_lem m h b)
 
-  failed_line : (line n : ℕ) → FailsFirst n (checks_of st r) → Reads F st line (r ∷ rs) (Refused (2 + n) line)
+  failed_line : (line n : ℕ) (c : Check) → check_number c ≡ 2 + n → FailsFirst n (checks_of st r) → Reads F st line (r ∷ rs) (Refused c line)
   unfolding Reads checks_at
-  failed_line line n h = inr (n, 0, ap (Refused (2 + n)) (omega arith), h, λ i b. absurd (omega arith))
+  failed_line line n c d h = inr (c, n, 0, ap (Refused c) (omega arith), d, h, λ i b. absurd (omega arith))
 
 reads : (F : Figures) (st : State) (line : ℕ) (rs : List Reading) → Reads F st line rs (read_on st line rs)
-unfolding Reads read_on checks_at state_after AllPass Fails
+unfolding Reads read_on refused_or checks_at state_after AllPass Fails
 reads F st line [] = inl (refl, λ m. tt)
 reads F st line (r ∷ rs) = go (failure st r) (line_fails F st r) (reads F (after st r) (suc line) rs)
   where
-    go : (w : ℕ) → Fails 2 w (checks_of st r) → Reads F (after st r) (suc line) rs (read_on (after st r) (suc line) rs) →
-        Reads F st line (r ∷ rs) (cond (eqb w 0) (read_on (after st r) (suc line) rs) (Refused w line))
-    go w (inl h) k = rw h.0 (passed_line F st r rs line (read_on (after st r) (suc line) rs) h.1 k)
-    go w (inr h) k = rw (ne_eqb w 0 (λ e. let z = h.1 in omega arith), h.1) (failed_line F st r rs line h.0 h.2)
+    go : (w : Checked) → Fails 2 w (checks_of st r) → Reads F (after st r) (suc line) rs (read_on (after st r) (suc line) rs) →
+        Reads F st line (r ∷ rs) (refused_or w line (read_on (after st r) (suc line) rs))
+    go (Ok u) h k = passed_line F st r rs line (read_on (after st r) (suc line) rs) h k
+    go (Err c) h k = failed_line F st r rs line h.0 c h.1 h.2
 
 -- Which clauses are empty.
 first_empty_lem : (cs : List Clause) → (first_empty cs < length cs → FirstEmpty (first_empty cs) cs) × (length cs ≤ first_empty cs → NoneEmpty cs)
@@ -125,24 +124,24 @@ module _ (F : Figures) (text : List ℕ) where
       go false e = (a, refl, (first_empty_lem cs).1 (ltb-false (first_empty cs) (length cs) e))
 
   finish_means : T (not (too_large F text)) → ((m : ℕ) → AllPass (checks_at fresh (readings F text) m)) → MeansVerdict F text (finish (state_of F text))
-  unfolding finish MeansVerdict clauses_of table_of
+  unfolding finish MeansVerdict clauses_of table_of check_number
   finish_means h k = go (has_constant (state_of F text).symbols) refl
     where
       go : (b : Bool) → has_constant (state_of F text).symbols ≡ b →
-          MeansVerdict F text (cond b (accepted_as (length (clauses (state_of F text))) (first_empty (clauses (state_of F text)))) (Refused 4 0))
+          MeansVerdict F text (cond b (accepted_as (length (clauses (state_of F text))) (first_empty (clauses (state_of F text)))) (Refused Check.Constant 0))
       go true e = accepted_means (record { small = h; passes = k; constant = rw e tt })
       go false e = at_end h k (rw e tt)
 
   -- The verdict means what TEXT-FORM says.
   pub verdict_means : MeansVerdict F text (verdict F text)
-  unfolding verdict MeansVerdict Reads state_of
+  unfolding verdict MeansVerdict Reads state_of check_number
   verdict_means = go (too_large F text) refl (reads F fresh 1 (readings F text))
     where
       go : (b : Bool) → too_large F text ≡ b → Reads F fresh 1 (readings F text) (read_on fresh 1 (readings F text)) →
-          MeansVerdict F text (cond b (Refused 1 0) (read_on fresh 1 (readings F text)))
+          MeansVerdict F text (cond b (Refused Check.Size 0) (read_on fresh 1 (readings F text)))
       go true e k = large (rw e tt)
       go false e (inl k) = rw k.0 (finish_means (rw e tt) k.1)
-      go false e (inr k) = rw k.2 (at_line k.0 k.1 (rw e tt) k.3 k.4)
+      go false e (inr (c, n, m, q, d, f, b)) = rw (q, d) (at_line n m (rw e tt) f b)
 
 -- The first failing line is one.
 first_line_lem : (P : ℕ → List (Type 0)) (n m n' m' : ℕ) → FailsFirst n (P m) → ((i : ℕ) → i < m → AllPass (P i)) → FailsFirst n' (P m') → ((i : ℕ) → i < m' → AllPass (P i)) → m ≡ m'
@@ -163,8 +162,8 @@ module _ (F : Figures) (text : List ℕ) where
   accepted_or_refused a (at_line n m h f b) = pass_or_fail n (checks_at fresh (readings F text) m) (a.passes m) f
   accepted_or_refused a (at_end h k c) = T_not (has_constant (table_of F text)) c a.constant
 
-  refused_once : {n l n' l' : ℕ} → Refusal F text n l → Refusal F text n' l' → Refused n l ≡ Refused n' l'
-  refused_once (large h) (large h') = refl
+  refused_once : {n l n' l' : ℕ} → Refusal F text n l → Refusal F text n' l' → (n ≡ n') × (l ≡ l')
+  refused_once (large h) (large h') = (refl, refl)
   refused_once (large h) (at_line n m h' f b) = not_both h h'
   refused_once (large h) (at_end h' k c) = not_both h h'
   refused_once (at_line n m h f b) (large h') = not_both h' h
@@ -172,11 +171,11 @@ module _ (F : Figures) (text : List ℕ) where
       let P = checks_at fresh (readings F text) in
       let e : m ≡ m' = first_line_lem P n m n' m' f b f' b' in
       let d : n ≡ n' = first_unique n n' (P m') (subst (λ i. FailsFirst n (P i)) e f) f' in
-      ap₂ (λ x y. Refused (2 + x) (1 + y)) d e
+      (ap (λ x. 2 + x) d, ap (λ y. 1 + y) e)
   refused_once (at_line n m h f b) (at_end h' k c) = absurd (pass_or_fail n (checks_at fresh (readings F text) m) (k m) f)
   refused_once (at_end h k c) (large h') = not_both h' h
   refused_once (at_end h k c) (at_line n m h' f b) = absurd (pass_or_fail n (checks_at fresh (readings F text) m) (k m) f)
-  refused_once (at_end h k c) (at_end h' k' c') = refl
+  refused_once (at_end h k c) (at_end h' k' c') = (refl, refl)
 
   means_once : (v w : Verdict) → MeansVerdict F text v → MeansVerdict F text w → v ≡ w
   unfolding MeansVerdict
@@ -188,7 +187,7 @@ module _ (F : Figures) (text : List ℕ) where
   means_once (Open c) (Refused n l) h k = absurd (accepted_or_refused h.0 k)
   means_once (Refused n l) (Refuted c f) h k = absurd (accepted_or_refused k.0 h)
   means_once (Refused n l) (Open c) h k = absurd (accepted_or_refused k.0 h)
-  means_once (Refused n l) (Refused n' l') h k = refused_once h k
+  means_once (Refused c l) (Refused c' l') h k = let (d, e) = refused_once h k in ap₂ Refused (same_check c c' d) e
 
   -- Of whole texts: each answer is given exactly when it is the one that is meant.
   pub verdict_exactly : (v : Verdict) → (verdict F text ≡ v) ↔ MeansVerdict F text v

@@ -1,5 +1,5 @@
 -- Answers stay: those by the former rule table (crates/logic/proofs/Former), in which inh and inp asked for a term result, are still given,
--- refusals by 9 apart.
+-- refusals by check 9 apart.
 use Prim.Native.Nat.{ℕ, zero, suc, ◌+◌, ◌<◌}
 use mathlib.Core.Bool.{not}
 use mathlib.Core.List.{List, [], ◌∷◌, ◌++◌}
@@ -9,11 +9,13 @@ use native.Mathlib.Omega.{arith}
 use lib.Dec.{T}
 use lib.ListN.{length}
 use Rattle.logic.specs.Syntax.{Clause, Step, Line, sym, input, by}
-use Rattle.logic.specs.StepChecks.{AllPass, FailsFirst, step_checks}
+use Rattle.logic.specs.StepChecks.{AllPass, FailsFirst, step_checks, check_number}
 use Rattle.logic.proofs.Staying.{former_checks, former_passes, former_fails}
 use Rattle.text.specs.Form.{Reading, form, no_form}
 use Rattle.text.specs.declared.Figures.{Figures}
 use Rattle.state.specs.State.{State, fresh, clauses, has_constant, line_checks, after}
+use Rattle.logic.specs.declared.Check.{Check}
+use Rattle.logic.proofs.Steps.{same_check}
 use Rattle.meaning.specs.declared.Verdict.{Verdict}
 use Rattle.meaning.specs.declared.Verdict.TheVariants.{Refuted, Open, Refused}
 use Rattle.meaning.specs.Checks.{readings, too_large, step_part, checks_of, checks_at, table_of, clauses_of, Accepted}
@@ -54,7 +56,7 @@ module _ (checks : List Clause → Step → List (Type 0)) where
     MeansBy (Refuted count first) ns =
         (AcceptedBy × (count ≡ length (clauses_of F text)) × FirstEmpty first (clauses_of F text)) × Names F text (Refuted count first) ns
     MeansBy (Open count) ns = (AcceptedBy × (count ≡ length (clauses_of F text)) × NoneEmpty (clauses_of F text)) × Names F text (Open count) ns
-    MeansBy (Refused number line) ns = RefusalBy number line × Names F text (Refused number line) ns
+    MeansBy (Refused check line) ns = RefusalBy (check_number check) line × Names F text (Refused check line) ns
 
 -- By the checks of a step this is what an answer means.
 part_by : (st : State) (l : Line) → step_part_by step_checks st l ≡ step_part st l
@@ -101,7 +103,8 @@ module _ (F : Figures) (text : List ℕ) where
   unfolding MeansBy Means MeansVerdict
   means_by (Refuted count first) ns = (λ ((a, n, e), r). ((accepted_by.0 a, n, e), r), λ ((a, n, e), r). ((accepted_by.1 a, n, e), r))
   means_by (Open count) ns = (λ ((a, n, e), r). ((accepted_by.0 a, n, e), r), λ ((a, n, e), r). ((accepted_by.1 a, n, e), r))
-  means_by (Refused number line) ns = (λ (f, r). ((refusal_by number line).0 f, r), λ (f, r). ((refusal_by number line).1 f, r))
+  means_by (Refused check line) ns =
+      (λ (f, r). ((refusal_by (check_number check) line).0 f, r), λ (f, r). ((refusal_by (check_number check) line).1 f, r))
 
 -- Behind the same checks: what passes, and what fails first.
 pass_append : (Ps Qs Rs : List (Type 0)) → (AllPass Qs → AllPass Rs) → AllPass (Ps ++ Qs) → AllPass (Ps ++ Rs)
@@ -157,14 +160,15 @@ module _ (F : Figures) (text : List ℕ) where
       RefusalBy.at_line n m h (lines_onward (FailsFirst n) (line_fails n (λ e. d (ap (λ k. 2 + k) e))) fresh (readings F text) m f) (λ i k. passes_at i (b i k))
   stays_refused d (RefusalBy.at_end h k c) = RefusalBy.at_end h (λ m. passes_at m (k m)) c
 
-  stays_meant : (v : Verdict) (ns : List ℕ) → ((line : ℕ) → v ≡ Refused 9 line → ⊥) → MeansBy former_checks F text v ns → MeansBy step_checks F text v ns
-  unfolding MeansBy
+  stays_meant : (v : Verdict) (ns : List ℕ) → ((line : ℕ) → v ≡ Refused Check.Shape line → ⊥) → MeansBy former_checks F text v ns → MeansBy step_checks F text v ns
+  unfolding MeansBy check_number
   stays_meant (Refuted count first) ns d ((a, n, e), r) = ((stays_accepted a, n, e), r)
   stays_meant (Open count) ns d ((a, n, e), r) = ((stays_accepted a, n, e), r)
-  stays_meant (Refused number line) ns d (f, r) = (stays_refused (λ e. d line (ap (λ k. Refused k line) e)) f, r)
+  stays_meant (Refused check line) ns d (f, r) =
+      (stays_refused (λ e. d line (ap (λ c. Refused c line) (same_check check Check.Shape e))) f, r)
 
-  -- Of every text: an answer by the former table, with the inputs that it named, is the answer, unless it was a refusal by 9.
-  pub stays_answered : (v : Verdict) (ns : List ℕ) → ((line : ℕ) → v ≡ Refused 9 line → ⊥) → MeansBy former_checks F text v ns → (verdict F text ≡ v) × (rests F text ≡ ns)
+  -- Of every text: an answer by the former table, with the inputs that it named, is the answer, unless it was a refusal by check 9.
+  pub stays_answered : (v : Verdict) (ns : List ℕ) → ((line : ℕ) → v ≡ Refused Check.Shape line → ⊥) → MeansBy former_checks F text v ns → (verdict F text ≡ v) × (rests F text ≡ ns)
   stays_answered v ns d m = (answer_exactly F text v ns).1 ((means_by F text v ns).0 (stays_meant v ns d m))
 
   -- "Accepted texts stay accepted with the same answer."

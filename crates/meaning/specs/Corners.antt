@@ -1,6 +1,7 @@
 -- TEXT-FORM, "Corners": C1 to C10 as texts with their answers, and C13.
 use Rattle.std.specs.Prelude.{ℕ, ◌-◌, List, [], ◌∷◌, ◌++◌, length, take, drop}
 use Prim.Native.String.{String}
+use Rattle.logic.specs.declared.Check.{Check}
 use Rattle.text.specs.Words.{bytes, line_end}
 use Rattle.text.specs.Figures.{office}
 use Rattle.meaning.specs.declared.Verdict.{Verdict}
@@ -36,17 +37,17 @@ abbrev pub ◌resting◌ : Verdict → List ℕ → Verdict × List ℕ
 unfoldable pub corners : List (List String × (Verdict × List ℕ))
 corners =
     (first_corner gives Refuted 5 4 resting 0 ∷ 1 ∷ 2 ∷ [])
-    ∷ (chain "(by res 2 0 3 0 0 (let (f 1)) (let) (or))" gives Refused 10 8 resting [])
-    ∷ ([] gives Refused 4 0 resting [])
+    ∷ (chain "(by res 2 0 3 0 0 (let (f 1)) (let) (or))" gives Refused Check.Agreement 8 resting [])
+    ∷ ([] gives Refused Check.Constant 0 resting [])
     ∷ ("(sym 0)" ∷ "(sym 0)" ∷ "(sym 0)" ∷ [] gives Open 0 resting [])
-    ∷ ("(sym 1)" ∷ "(in (or))" ∷ [] gives Refused 4 2 resting [])
+    ∷ ("(sym 1)" ∷ "(in (or))" ∷ [] gives Refused Check.Constant 2 resting [])
     ∷ ("(sym 0)" ∷ "(in (or))" ∷ [] gives Refuted 1 0 resting 0 ∷ [])
     ∷ ("(sym 0)" ∷ "(in (or (+ (sv (f 0) (f 0) ((f 0)) (f 0)))))" ∷ "(in (or (+ (sv (f 0) (f 0) ((f 0) (f 0)) (f 0)))))"
-    ∷ "(by sca 0 0 1 0 0 (let) (let) (or (+ (eq (f 0) (f 0)))))" ∷ [] gives Refused 10 4 resting [])
+    ∷ "(by sca 0 0 1 0 0 (let) (let) (or (+ (eq (f 0) (f 0)))))" ∷ [] gives Refused Check.Agreement 4 resting [])
     ∷ ("(sym 0)" ∷ "(in (or (+ (mv (f 0) (f 0) () (f 0)))))" ∷ "(in (or (- (mv (f 0) (f 0) () none))))"
     ∷ "(by res 1 0 0 0 0 (let) (let) (or))" ∷ [] gives Refuted 3 2 resting 0 ∷ 1 ∷ [])
     ∷ ("(sym 0)" ∷ "(in (or (- (mv (f 0) (f 0) () (f 0)))))" ∷ "(in (or (+ (mv (f 0) (f 0) () none))))"
-    ∷ "(by res 0 0 1 0 0 (let) (let) (or))" ∷ [] gives Refused 10 4 resting [])
+    ∷ "(by res 0 0 1 0 0 (let) (let) (or))" ∷ [] gives Refused Check.Agreement 4 resting [])
     ∷ ("(sym 0)" ∷ "(sym 0)" ∷ "(in (or (+ (mem (v 0) (f 0)))))" ∷ "(in (or (- (mem (f 1) (v 0)))))"
     ∷ "(by res 1 0 0 0 0 (let (f 0)) (let (f 1)) (or))" ∷ [] gives Refuted 3 2 resting 0 ∷ 1 ∷ [])
     ∷ []
@@ -59,10 +60,10 @@ AllMeant ((lines, (v, ns)) ∷ cs) = Means office (text_of lines) v ns × AllMea
 -- C13: a base and a job.
 pub record JobCorners : Type 0 where
   -- "an empty base gives refused 4 0, whatever the job is".
-  pub empty : (job : List ℕ) → JobMeans office [] job (Refused 4 0) []
+  pub empty : (job : List ℕ) → JobMeans office [] job (Refused Check.Constant 0) []
   -- "the three sym lines of C1 and then its other lines give C1's answer".
   pub cut : JobMeans office (text_of (take 3 first_corner)) (text_of (drop 3 first_corner)) (Refuted 5 4) (0 ∷ 1 ∷ 2 ∷ [])
   -- "and so does C1 with an empty job".
   pub whole : JobMeans office (text_of first_corner) [] (Refuted 5 4) (0 ∷ 1 ∷ 2 ∷ [])
   -- "C1 without its last line end gives refused 2 8, whatever the job is".
-  pub unended : (job : List ℕ) → JobMeans office (take (length (text_of first_corner) - 1) (text_of first_corner)) job (Refused 2 8) []
+  pub unended : (job : List ℕ) → JobMeans office (take (length (text_of first_corner) - 1) (text_of first_corner)) job (Refused Check.Form 8) []

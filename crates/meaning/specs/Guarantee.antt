@@ -16,7 +16,7 @@ use Rattle.meaning.specs.Checks.{too_large, table_of, inputs_of, clauses_of}
 unfoldable pub is_accepted : Verdict → Bool
 is_accepted (Refuted count first) = true
 is_accepted (Open count) = true
-is_accepted (Refused number line) = false
+is_accepted (Refused check line) = false
 
 -- V25, "it lies within the limits": the text's bytes and lines (T18), each line's numbers (T4) and depth (T12), and check 5 of each line
 -- (V15).

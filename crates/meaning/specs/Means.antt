@@ -2,7 +2,7 @@
 use Rattle.std.specs.Prelude.{ℕ, zero, suc, ◌+◌, ◌<◌, Bool, false, not, List, [], ◌∷◌, ◌≡◌, T, length, get_or}
 use Prim.Native.String.{String}
 use Rattle.logic.specs.Syntax.{Clause}
-use Rattle.logic.specs.StepChecks.{AllPass, FailsFirst}
+use Rattle.logic.specs.StepChecks.{AllPass, FailsFirst, check_number}
 use Rattle.logic.specs.Descent.{RestsOn, numbers_below}
 use Rattle.text.specs.declared.Figures.{Figures}
 use Rattle.text.specs.Figures.{office}
@@ -41,13 +41,13 @@ pub data Refusal (F : Figures) (text : List ℕ) : ℕ → ℕ → Type 0 where
 unfoldable pub MeansVerdict : Figures → List ℕ → Verdict → Type 0
 MeansVerdict F text (Refuted count first) = Accepted F text × (count ≡ length (clauses_of F text)) × FirstEmpty first (clauses_of F text)
 MeansVerdict F text (Open count) = Accepted F text × (count ≡ length (clauses_of F text)) × NoneEmpty (clauses_of F text)
-MeansVerdict F text (Refused number line) = Refusal F text number line
+MeansVerdict F text (Refused check line) = Refusal F text (check_number check) line
 
 -- V30: "A refuted answer also names the input clauses from which its first empty clause descends"; other answers name none.
 unfoldable pub Names : Figures → List ℕ → Verdict → List ℕ → Type 0
 Names F text (Refuted count first) ns = RestsOn (length (inputs_of F text)) (steps_of F text) first ns
 Names F text (Open count) ns = ns ≡ []
-Names F text (Refused number line) ns = ns ≡ []
+Names F text (Refused check line) ns = ns ≡ []
 
 -- V1 to V3, V30: what an answer, a verdict and the inputs that are named, means.
 unfoldable pub Means : Figures → List ℕ → Verdict → List ℕ → Type 0
@@ -61,9 +61,9 @@ named rests = numbers_below office.lines (λ n. get_or rests n false)
 unfoldable pub verdict_word : Verdict → String
 verdict_word (Refuted count first) = "refuted"
 verdict_word (Open count) = "open"
-verdict_word (Refused number line) = "refused"
+verdict_word (Refused check line) = "refused"
 
 unfoldable pub numbers : Verdict → List ℕ
 numbers (Refuted count first) = count ∷ (first ∷ [])
 numbers (Open count) = count ∷ []
-numbers (Refused number line) = number ∷ (line ∷ [])
+numbers (Refused check line) = check_number check ∷ (line ∷ [])

@@ -1,22 +1,29 @@
 -- Where all lines have passed: the answer by what is held of the clauses. Nothing here has to be believed: `ends_held`
 -- (crates/verdict/proofs/Ends) says that it is the answer of the definitions.
-use Rattle.std.specs.Prelude.{ℕ, zero, suc, Bool, cond, List, [], ◌∷◌, eqb, ltb}
+use Rattle.std.specs.Prelude.{ℕ, Bool, cond, Option, Some, None, List, ◌==◌, take, position}
+use Rattle.logic.specs.declared.Check.{Check}
+use Rattle.descent.specs.declared.Held.{Held}
 use Rattle.descent.specs.Walk.{inputs_from}
 use Rattle.meaning.specs.declared.Verdict.{Verdict}
-use Rattle.meaning.specs.declared.Verdict.TheVariants.{Refused}
-use Rattle.meaning.specs.Answer.{accepted_as}
+use Rattle.meaning.specs.declared.Verdict.TheVariants.{Refuted, Open, Refused}
 
--- The place of the first 0, or the length.
-unfoldable pub first_zero : List ℕ → ℕ
-first_zero [] = zero
-first_zero (n ∷ ns) =
-    let further = suc (first_zero ns) in
-    cond (eqb n 0) zero further
+-- The place of the first clause, of so many, that has no literals, if there is one.
+unfoldable pub first_without : List Held → ℕ → Option ℕ
+first_without held clauses = position (λ (c : Held). c.literals == 0) (take clauses held)
 
--- Check 4 where the text ends (V14), and the answer to an accepted text (V1, V2).
-unfoldable pub ends_as : Bool → ℕ → ℕ → Verdict
-ends_as constant count first = cond constant (accepted_as count first) (Refused 4 0)
+-- The answer to an accepted text (V1, V2), by the number of clauses and the first empty one.
+unfoldable pub accepted_with : ℕ → Option ℕ → Verdict
+accepted_with count (Some first) = Refuted count first
+accepted_with count None = Open count
+
+-- Check 4 where the text ends (V14), and the answer to an accepted text.
+unfoldable pub ends_as : Bool → ℕ → Option ℕ → Verdict
+ends_as constant count first = cond constant (accepted_with count first) (Refused Check.Constant 0)
 
 -- The inputs from which the first empty clause descends are marked (V30).
-unfoldable pub marks_as : Bool → ℕ → ℕ → ℕ → List ℕ → List ℕ → List Bool → List Bool
-marks_as constant count first inputs ps qs before = cond constant (cond (ltb first count) (inputs_from ps qs inputs first) before) before
+unfoldable pub marks_with : Option ℕ → ℕ → List Held → List Bool → List Bool
+marks_with (Some first) inputs held before = inputs_from held inputs first
+marks_with None inputs held before = before
+
+unfoldable pub marks_as : Bool → Option ℕ → ℕ → List Held → List Bool → List Bool
+marks_as constant first inputs held before = cond constant (marks_with first inputs held before) before

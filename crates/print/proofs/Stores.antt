@@ -1,13 +1,15 @@
 -- The numbers of a line, one after another.
-use Prim.Native.Nat.{ℕ, zero, suc, ◌+◌, ◌*◌, ◌≤◌}
+use Prim.Native.Nat.{ℕ, zero, suc, ◌+◌, ◌*◌, ◌≤◌, ◌<◌}
 use mathlib.Core.Path.{◌≡◌, refl, sym, ap, subst, ◌∙◌}
 use mathlib.Core.Bool.{Bool, true, false}
 use mathlib.Core.List.{List, [], ◌∷◌, ◌++◌, append_assoc, append-nil}
 use native.Mathlib.Numerals.{add-one}
 use native.Mathlib.Omega.{arith}
-use lib.ListN.{length, drop, get_or, length-append}
+use lib.ListN.{length, drop, take, get_or, length-append}
+use Rattle.std.proofs.lemmas.List.{take_more}
 use lib.Seq.{length-take-le}
 use Rattle.io.specs.Counts.{IsPrefixLen}
+use Rattle.logic.specs.declared.Check.{Check}
 use Rattle.logic.specs.Descent.{numbers_below}
 use Rattle.text.specs.Words.{bytes, line_end}
 use Rattle.meaning.specs.declared.Verdict.{Verdict}
@@ -27,8 +29,9 @@ pub spaced_one : (n : ℕ) → spaced (n ∷ []) ≡ 32 ∷ numeral n
 unfolding spaced
 spaced_one n = append-nil (32 ∷ numeral n)
 
-pub pair_short : (a b : List ℕ) {j k : ℕ} → length a ≤ j → length b ≤ k → length (a ++ b) ≤ j + k
-pair_short a b h k = omega (arith, length-append a b)
+-- One more number of a list.
+pub next_spaced : (ns : List ℕ) (i : ℕ) → i < length ns → spaced (take (i + 1) ns) ≡ spaced (take i ns) ++ spaced (get_or ns i 0 ∷ [])
+next_spaced ns i h = ap spaced (take_more ns i 0 h) ∙ spaced_append (take i ns) (get_or ns i 0 ∷ [])
 
 -- One more number of those that pass a test, and one that does not pass it.
 pub more_spaced : (test : ℕ → Bool) (n : ℕ) → test n ≡ true → spaced (numbers_below (n + 1) test) ≡ spaced (numbers_below n test) ++ spaced (n ∷ [])
@@ -71,7 +74,7 @@ pub open_line : {v : Verdict} {count : ℕ} (ns : List ℕ) → v ≡ Open count
 unfolding written rests_line
 open_line ns e = rw e (append-nil _)
 
-pub refused_line : {v : Verdict} {number line : ℕ} (ns : List ℕ) → v ≡ Refused number line → written v ns ≡ verdict_line v
+pub refused_line : {v : Verdict} {check : Check} {line : ℕ} (ns : List ℕ) → v ≡ Refused check line → written v ns ≡ verdict_line v
 unfolding written rests_line
 refused_line ns e = rw e (append-nil _)
 
@@ -83,7 +86,7 @@ lines_short (Refuted count first) marks h =
     let second = line_short (bytes "rests") (named marks) (spaced_short test 1024 (omega arith)) in
     omega (arith, length-append (verdict_line (Refuted count first)) (word_line (bytes "rests") (named marks)))
 lines_short (Open count) marks h = omega (arith, length-append (verdict_line (Open count)) [])
-lines_short (Refused number line) marks h = omega (arith, length-append (verdict_line (Refused number line)) [])
+lines_short (Refused check line) marks h = omega (arith, length-append (verdict_line (Refused check line)) [])
 
 -- What is written where there is room for it.
 pub wrote_all : {r : ℕ} {m : List ℕ} (part l : List ℕ) → length part ≤ length l → Wrote part l r m → (r ≡ length part) × (m ≡ part ++ drop r l)

@@ -24,7 +24,7 @@ verdict_line v = word_line (bytes (verdict_word v)) (numbers v)
 unfoldable pub rests_line : Verdict → List ℕ → List ℕ
 rests_line (Refuted count first) ns = word_line (bytes "rests") ns
 rests_line (Open count) ns = []
-rests_line (Refused number line) ns = []
+rests_line (Refused check line) ns = []
 
 -- V27, V31: all that is printed of an answer.
 unfoldable pub written : Verdict → List ℕ → List ℕ

@@ -1,7 +1,7 @@
 // The lines that answer a text.
 #![tactic(auto)]
 
-ghost use Rattle.std.specs.Prelude.{◌+◌, ◌≤◌, ◌≡◌, [], ◌∷◌, ◌++◌, length, drop};
+ghost use Rattle.std.specs.Prelude.{◌+◌, ◌*◌, ◌≤◌, ◌≡◌, [], ◌∷◌, ◌++◌, length, drop};
 ghost use Rattle.text.specs.Words.{bytes};
 ghost use Rattle.meaning.specs.Means.{named};
 ghost use Rattle.writer.specs.Written.{Wrote};
@@ -23,32 +23,25 @@ fn put_spaced(n: usize, out: &mut [u8]) -> usize
     at + put_number(n, &mut out[at..])
 }
 
-// Puts two numbers at the start of out, each after a space, and answers how many bytes were put.
-fn put_pair(a: usize, b: usize, out: &mut [u8]) -> usize
-    ensures wrote { Wrote (spaced (a ∷ (b ∷ []))) out.old result out.new }
-    ensures at_most { length (spaced (a ∷ (b ∷ []))) ≤ 42 }
+// Puts numbers at the start of out, each after a space, and answers how many bytes were put.
+fn put_numbers(numbers: &[usize], out: &mut [u8]) -> usize
+    ensures wrote { Wrote (spaced numbers.now) out.old result out.new }
+    ensures at_most { length (spaced numbers.now) ≤ 21 * length numbers.now }
 {
-    let at = put_spaced(a, out);
-    at + put_spaced(b, &mut out[at..])
+    let mut end = 0;
+    for &n in numbers {
+        end += put_spaced(n, &mut out[end..]);
+    }
+    end
 }
 
-// Puts a word, one number and a line end at the start of out, and answers how many bytes were put.
-fn put_one(word: &[u8], a: usize, out: &mut [u8]) -> usize
-    ensures wrote { Wrote (word_line word.now (a ∷ [])) out.old result out.new }
-    ensures at_most { length (word_line word.now (a ∷ [])) ≤ length word.now + 22 }
+// Puts a word, numbers and a line end at the start of out, and answers how many bytes were put.
+fn put_line(word: &[u8], numbers: &[usize], out: &mut [u8]) -> usize
+    ensures wrote { Wrote (word_line word.now numbers.now) out.old result out.new }
+    ensures at_most { length (word_line word.now numbers.now) ≤ length word.now + (21 * length numbers.now + 1) }
 {
     let at = put(word, out);
-    let end = at + put_spaced(a, &mut out[at..]);
-    end + put(b"\n", &mut out[end..])
-}
-
-// Puts a word, two numbers and a line end at the start of out, and answers how many bytes were put.
-fn put_two(word: &[u8], a: usize, b: usize, out: &mut [u8]) -> usize
-    ensures wrote { Wrote (word_line word.now (a ∷ (b ∷ []))) out.old result out.new }
-    ensures at_most { length (word_line word.now (a ∷ (b ∷ []))) ≤ length word.now + 43 }
-{
-    let at = put(word, out);
-    let last = at + put_pair(a, b, &mut out[at..]);
+    let last = at + put_numbers(numbers, &mut out[at..]);
     last + put(b"\n", &mut out[last..])
 }
 
@@ -58,9 +51,9 @@ fn put_verdict(v: Verdict, out: &mut [u8]) -> usize
     ensures at_most { length (verdict_line v) ≤ 64 }
 {
     match v {
-        Verdict::Refuted { count, first } => put_two(b"refuted", count, first, out),
-        Verdict::Open { count } => put_one(b"open", count, out),
-        Verdict::Refused { number, line } => put_two(b"refused", number, line, out),
+        Verdict::Refuted { count, first } => put_line(b"refuted", &[count, first], out),
+        Verdict::Open { count } => put_line(b"open", &[count], out),
+        Verdict::Refused { check, line } => put_line(b"refused", &[check.number(), line], out),
     }
 }
 
@@ -69,12 +62,10 @@ fn put_marked(marks: &[bool; LINES], out: &mut [u8]) -> usize
     ensures { Wrote (spaced (named marks.now)) out.old result out.new }
 {
     let mut end = 0;
-    let mut n = 0;
-    while n < LINES {
-        if marks[n] {
+    for (n, &mark) in marks.iter().enumerate() {
+        if mark {
             end += put_spaced(n, &mut out[end..]);
         }
-        n += 1;
     }
     end
 }
@@ -95,9 +86,8 @@ fn put_lines(v: Verdict, marks: &[bool; LINES], out: &mut [u8]) -> usize
 {
     let at = put_verdict(v, out);
     match v {
-        Verdict::Refuted { count: _, first: _ } => at + put_rests(marks, &mut out[at..]),
-        Verdict::Open { count: _ } => at,
-        Verdict::Refused { number: _, line: _ } => at,
+        Verdict::Refuted { .. } => at + put_rests(marks, &mut out[at..]),
+        Verdict::Open { .. } | Verdict::Refused { .. } => at,
     }
 }
 
@@ -106,6 +96,5 @@ pub fn lines(a: Answer, out: &mut [u8; ROOM]) -> usize
     ensures value { result ≡ length (written a.verdict (named a.rests)) }
     ensures out_after { out.new ≡ written a.verdict (named a.rests) ++ drop result out.old }
 {
-    let v = a.verdict;
-    put_lines(v, &a.rests, out)
+    put_lines(a.verdict, &a.rests, out)
 }

@@ -34,7 +34,9 @@ unfolding joined
 bounds_lawful = let w = max_lawful in record {
   left = λ a i. bounds_of (w.left a.width i) (w.left a.arguments i) a.declared;
   right = λ a i. bounds_of (w.right a.width i) (w.right a.arguments i) (and_true a.declared i);
-  assoc = λ a b c i. bounds_of (w.assoc a.width b.width c.width i) (w.assoc a.arguments b.arguments c.arguments i) (and_assoc a.declared b.declared c.declared i);
+  assoc = λ a b c i.
+      bounds_of (w.assoc a.width b.width c.width i) (w.assoc a.arguments b.arguments c.arguments i)
+      (and_assoc a.declared b.declared c.declared i);
 }
 
 -- What is taken tells what a function gives of terms, lists of terms and clauses: the function joins what it gives of their parts, and a
@@ -51,7 +53,8 @@ pub record Tells {M N : Type 0} (K : Taken M) (see : M → N) (term : Term → N
   pub on_none : terms nil ≡ clause []
   pub on_literal : (g : Sign) (x : Atom) (c : Clause) → both (terms (terms_of x)) (clause c) ≡ clause (lit g x ∷ c)
 
-module _ {M N : Type 0} {K : Taken M} {see : M → N} {term : Term → N} {terms : Terms → N} {clause : Clause → N} (S : Tells K see term terms clause) where
+module _ {M N : Type 0} {K : Taken M} {see : M → N} {term : Term → N} {terms : Terms → N} {clause : Clause → N}
+    (S : Tells K see term terms clause) where
   pair : {a b : M} {c d : N} → see a ≡ c → see b ≡ d → see (K.join a b) ≡ S.both c d
   pair {a} {b} p q = S.on_join a b ∙ ap₂ S.both p q
 
@@ -59,7 +62,9 @@ module _ {M N : Type 0} {K : Taken M} {see : M → N} {term : Term → N} {terms
   append : (ts us : Terms) → S.both (terms ts) (terms us) ≡ terms (join ts us)
   unfolding join
   append nil us = S.laws.left (terms us)
-  append (cons t ts) us = ap (λ x. S.both x (terms us)) (sym (S.on_term t ts)) ∙ sym (S.laws.assoc (term t) (terms ts) (terms us)) ∙ ap (S.both (term t)) (append ts us) ∙ S.on_term t (join ts us)
+  append (cons t ts) us =
+      ap (λ x. S.both x (terms us)) (sym (S.on_term t ts)) ∙ sym (S.laws.assoc (term t) (terms ts) (terms us))
+      ∙ ap (S.both (term t)) (append ts us) ∙ S.on_term t (join ts us)
 
   alone : (t : Term) → term t ≡ terms (cons t nil)
   alone t = sym (S.laws.right (term t)) ∙ S.on_term t nil
@@ -95,16 +100,42 @@ module _ {M N : Type 0} {K : Taken M} {see : M → N} {term : Term → N} {terms
 -- The width.
 pub width_told : (table : List ℕ) → Tells (bounds table) (λ b. b.width) term_width terms_width width
 unfolding joined term_width width
-width_told table = record { both = max; laws = max_lawful; on_nothing = refl; on_join = λ a b. refl; on_variable = λ n. refl; on_symbol = λ f ts. omega arith; on_arity = λ n. refl; on_term = λ t ts. refl; on_none = refl; on_literal = λ g x c. refl }
+width_told table = record {
+  both = max;
+  laws = max_lawful;
+  on_nothing = refl;
+  on_join = λ a b. refl;
+  on_variable = λ n. refl;
+  on_symbol = λ f ts. omega arith;
+  on_arity = λ n. refl;
+  on_term = λ t ts. refl;
+  on_none = refl;
+  on_literal = λ g x c. refl;
+}
 
 -- A test of each variable and of each applied symbol.
-each_told : {M : Type 0} {K : Taken M} {see : M → Bool} (p : ℕ → Bool) (s : ℕ → ℕ → Bool) → see K.nothing ≡ true → ((a b : M) → see (K.join a b) ≡ see a && see b) → ((n : ℕ) → see (K.variable n) ≡ p n) → ((f n : ℕ) → see (K.symbol f n) ≡ s f n) → ((n : ℕ) → see (K.arity n) ≡ true) →
+each_told : {M : Type 0} {K : Taken M} {see : M → Bool} (p : ℕ → Bool) (s : ℕ → ℕ → Bool) → see K.nothing ≡ true
+    → ((a b : M) → see (K.join a b) ≡ see a && see b) → ((n : ℕ) → see (K.variable n) ≡ p n) → ((f n : ℕ) → see (K.symbol f n) ≡ s f n)
+    → ((n : ℕ) → see (K.arity n) ≡ true) →
     Tells K see (each_term p s) (each_terms p s) (each_clause p s)
 unfolding each_term each_clause each_atom
-each_told p s z j v f a = record { both = ◌&&◌; laws = record { left = λ b. refl; right = and_true; assoc = and_assoc }; on_nothing = z; on_join = j; on_variable = v; on_symbol = λ g ts. ap (λ b. b && each_terms p s ts) (f g (count ts)); on_arity = a; on_term = λ t ts. refl; on_none = refl; on_literal = λ g x c. refl }
+each_told p s z j v f a = record {
+  both = ◌&&◌;
+  laws = record { left = λ b. refl; right = and_true; assoc = and_assoc };
+  on_nothing = z;
+  on_join = j;
+  on_variable = v;
+  on_symbol = λ g ts. ap (λ b. b && each_terms p s ts) (f g (count ts));
+  on_arity = a;
+  on_term = λ t ts. refl;
+  on_none = refl;
+  on_literal = λ g x c. refl;
+}
 
 -- Whether every applied symbol is declared.
-pub declared_told : (table : List ℕ) → Tells (bounds table) (λ b. b.declared) (each_term any (declares table)) (each_terms any (declares table)) (each_clause any (declares table))
+pub declared_told : (table : List ℕ)
+    → Tells (bounds table) (λ b. b.declared) (each_term any (declares table)) (each_terms any (declares table))
+    (each_clause any (declares table))
 unfolding joined
 declared_told table = each_told any (declares table) refl (λ a b. refl) (λ n. refl) (λ f n. refl) (λ n. refl)
 
@@ -113,6 +144,9 @@ pub leb_max : (a b n : ℕ) → leb (max a b) n ≡ leb a n && leb b n
 leb_max a b n = same_test _ _ (λ h. let k = leb→le (max a b) n h in simp T_and (le→leb a n (omega arith), le→leb b n (omega arith)))
     (λ h. let (j, k) = simp T_and at h in let j' = leb→le a n j in let k' = leb→le b n k in le→leb (max a b) n (omega arith))
 
-pub below_told : (table : List ℕ) (n : ℕ) → let p : ℕ → Bool = λ v. ltb v n in let s : ℕ → ℕ → Bool = λ _ _. true in Tells (bounds table) (λ b. leb b.width n) (each_term p s) (each_terms p s) (each_clause p s)
+pub below_told : (table : List ℕ) (n : ℕ) → let p : ℕ → Bool = λ v. ltb v n in let s : ℕ → ℕ
+    → Bool = λ _ _. true in Tells (bounds table) (λ b. leb b.width n) (each_term p s) (each_terms p s) (each_clause p s)
 unfolding joined
-below_told table n = let z = le-leb 0 n (omega arith) in each_told (λ v. ltb v n) (λ _ _. true) z (λ a b. leb_max a.width b.width n) (λ v. refl) (λ f k. z) (λ k. z)
+below_told table n =
+    let z = le-leb 0 n (omega arith) in
+    each_told (λ v. ltb v n) (λ _ _. true) z (λ a b. leb_max a.width b.width n) (λ v. refl) (λ f k. z) (λ k. z)

@@ -1,7 +1,9 @@
 pub mod Bounds
-pub mod Measuring
-pub mod Loop
-pub mod Parts
-pub mod AtomParts
-pub mod ClauseParts
+pub mod Declared
+pub mod Listing
+pub mod Lists
+pub mod AtomKinds
+pub mod Results
+pub mod Lines
+pub mod Steps
 pub mod LineParts

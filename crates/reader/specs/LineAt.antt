@@ -1,37 +1,36 @@
 -- Nothing here is to be believed: it mirrors code on bytes; `line_seen` (crates/state/proofs/Held) says what it gives of a line.
 -- A line as the reader gives it: what it is, its numbers, and of its clause and lists where they begin and what they measure.
-use Rattle.std.specs.Prelude.{ℕ, ◌-◌, List, [], length, drop}
+use Rattle.std.specs.Prelude.{ℕ, ◌-◌, Bool, false, List, [], ◌∷◌, eqb, length, Option, Some, None}
 use Rattle.logic.specs.Syntax.{Clause, Step, sym, input, by}
-use Rattle.scan.specs.declared.numbers.NumberAt.{NumberAt}
-use Rattle.scan.specs.declared.tables.RuleAt.{RuleAt}
-use Rattle.scan.specs.Numbers.{number_at}
-use Rattle.scan.specs.Tables.{rule_at}
-use Rattle.reader.specs.declared.forms.HeadAt.{HeadAt}
+use Rattle.reader.specs.declared.forms.Head.{Head}
 use Rattle.reader.specs.declared.forms.StepAt.{StepAt}
 use Rattle.reader.specs.declared.forms.LineAt.{LineAt}
-use Rattle.reader.specs.declared.forms.LineAt.TheVariants.{NoForm, Sym, Input, By}
+use Rattle.reader.specs.declared.forms.LineAt.TheVariants.{Sym, Input, By}
 use Rattle.text.specs.Write.{word, put_clause, put_let}
 use Rattle.text.specs.Form.{Reading, form, no_form}
-use Rattle.text.specs.Read.{Reader, ◌>>◌, skip, read_number, read_rule}
+use Rattle.text.specs.Read.{Reader, ◌>>=◌, ◌>>◌, return, skip, read_number, read_rule}
 use Rattle.reader.specs.Summary.{terms_measure, clause_measure}
 
 -- A number after one space.
 unfoldable pub read_spaced : Reader ℕ
 read_spaced = skip " " >> read_number
 
--- T9, RULE A I B J K: each where the one before it ends.
-unfoldable pub spaced_at : List ℕ → ℕ → NumberAt
-spaced_at s at = number_at s (read_spaced (drop at s))
+-- T9, RULE A I B J K.
+unfoldable pub read_head : Reader Head
+read_head = do
+  rule ← read_rule
+  a ← read_spaced
+  i ← read_spaced
+  b ← read_spaced
+  j ← read_spaced
+  k ← read_spaced
+  return (record { rule = rule; a = a; i = i; b = b; j = j; k = k })
 
-unfoldable pub head_at : List ℕ → ℕ → HeadAt
-head_at s at =
-    let r : RuleAt = rule_at s (read_rule (drop at s)) in
-    let a : NumberAt = spaced_at s r.end in
-    let i : NumberAt = spaced_at s a.end in
-    let b : NumberAt = spaced_at s i.end in
-    let j : NumberAt = spaced_at s b.end in
-    let k : NumberAt = spaced_at s j.end in
-    record { rule = r.rule; a = a.value; i = i.value; b = b.value; j = j.value; k = k.value; end = k.end }
+-- A closing bracket, and nothing after it.
+unfoldable pub closed : List ℕ → Bool
+closed [] = false
+closed (b ∷ []) = eqb 41 b
+closed (b ∷ c ∷ bs) = false
 
 -- T8, `(in CLAUSE)`, and T9, `(by RULE A I B J K LET LET CLAUSE)`: the bytes of the line from its clause on, from its second list on, from
 -- its first.
@@ -62,8 +61,8 @@ step_of table s st = record {
   claim = record { start = place_of s (from_clause st.claim); measure = clause_measure table st.claim };
 }
 
-unfoldable pub line_of : List ℕ → List ℕ → Reading → LineAt
-line_of table s no_form = NoForm
-line_of table s (form (sym k)) = Sym k
-line_of table s (form (input c)) = Input (record { start = place_of s (from_clause c); measure = clause_measure table c })
-line_of table s (form (by st)) = By (step_of table s st)
+unfoldable pub line_of : List ℕ → List ℕ → Reading → Option LineAt
+line_of table s no_form = None
+line_of table s (form (sym k)) = Some (Sym k)
+line_of table s (form (input c)) = Some (Input (record { start = place_of s (from_clause c); measure = clause_measure table c }))
+line_of table s (form (by st)) = Some (By (step_of table s st))

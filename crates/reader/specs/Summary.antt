@@ -1,14 +1,11 @@
 -- Nothing here is to be believed: it mirrors code on bytes; `line_seen` (crates/state/proofs/Held) says what it gives of a line.
--- What reading a part in one pass tells of it: its end, and a measure of the value read.
-use Rattle.std.specs.Prelude.{ℕ, suc, max, Bool, true, cond, ◌&&◌, leb, List, [], ◌∷◌, length}
+-- What reading a part in one pass tells of it: a measure of the value read.
+use Rattle.std.specs.Prelude.{ℕ, suc, max, Bool, true, ◌&&◌, List, [], ◌∷◌, length}
 use Rattle.logic.specs.Syntax.{Term, var, app, Terms, nil, cons, Result, Part, part, Atom, link, obj, arrows, Literal, lit, Clause}
 use Rattle.logic.specs.Terms.{count, result_terms}
 use Rattle.logic.specs.Each.{declares}
 use Rattle.reader.specs.declared.measures.Bounds.{Bounds}
 use Rattle.reader.specs.declared.measures.Measure.{Measure}
-use Rattle.reader.specs.declared.summaries.Summary.{Summary}
-use Rattle.text.specs.Read.{Parsed}
-use Rattle.text.specs.Places.{end_of, read_or}
 
 -- What is taken of the parts of a text: of none, of two from left to right, of variable n, of symbol f applied to n terms, and of a method
 -- with n arguments.
@@ -28,6 +25,9 @@ unfoldable mutual
   pub of_terms : {M : Type 0} → Taken M → Terms → M
   of_terms T nil = T.nothing
   of_terms T (cons t ts) = T.join (of_term T t) (of_terms T ts)
+
+abbrev pub of_result : {M : Type 0} → Taken M → Result → M
+of_result T r = of_terms T (result_terms r)
 
 unfoldable pub of_part : {M : Type 0} → Taken M → Part → M
 of_part T (part a m ts r) = T.join (T.arity (count ts)) (T.join (of_term T m) (T.join (of_terms T ts) (of_terms T (result_terms r))))
@@ -80,35 +80,8 @@ measured n b = record { count = n; bounds = b }
 abbrev pub empty : Measure
 empty = measured 0 no_bounds
 
-abbrev pub term_measure : List ℕ → Term → Measure
-term_measure table t = measured 1 (of_term (bounds table) t)
-
 abbrev pub terms_measure : List ℕ → Terms → Measure
 terms_measure table ts = measured (count ts) (of_terms (bounds table) ts)
 
-abbrev pub result_measure : List ℕ → Result → Measure
-result_measure table r = terms_measure table (result_terms r)
-
-abbrev pub part_measure : List ℕ → Part → Measure
-part_measure table p = measured 1 (of_part (bounds table) p)
-
-abbrev pub atom_measure : List ℕ → Atom → Measure
-atom_measure table x = measured 1 (of_atom (bounds table) x)
-
-abbrev pub literal_measure : List ℕ → Literal → Measure
-literal_measure table l = measured 1 (of_literal (bounds table) l)
-
 abbrev pub clause_measure : List ℕ → Clause → Measure
 clause_measure table c = measured (length c) (of_clause (bounds table) c)
-
--- Symbol f applied to terms of this measure.
-abbrev pub applied_bounds : List ℕ → ℕ → Measure → Bounds
-applied_bounds table f m = joined (symbol_bounds (declares table f m.count)) m.bounds
-
--- The end of what was read, and its measure.
-abbrev pub summary : {A : Type 0} → (A → Measure) → List ℕ → Parsed A → Summary
-summary measure s p = record { end = end_of s p; measure = read_or empty measure p }
-
--- A part that ends at e; past the end of s nothing was read.
-unfoldable pub settled : List ℕ → ℕ → Measure → Summary
-settled s e m = record { end = e; measure = cond (leb e (length s)) m empty }

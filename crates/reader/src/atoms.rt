@@ -1,136 +1,139 @@
 // Atoms and literals.
-ghost use Rattle.std.specs.Prelude.{◌≡◌, drop};
+ghost use Rattle.std.specs.Prelude.{◌≡◌};
 ghost use Rattle.logic.specs.declared.Link.{Link};
 ghost use Rattle.logic.specs.Syntax.{may_be_none};
-ghost use Rattle.text.specs.Read.{read_arguments, read_result, read_link, read_object, read_part, read_method, read_kind, read_atom, read_literal};
-ghost use Rattle.reader.specs.Summary.{terms_measure, result_measure, part_measure, atom_measure, literal_measure, summary};
+ghost use Rattle.text.specs.Read.{read_arguments, read_result, read_link, read_object, read_part, read_method, read_kind, read_atom};
+ghost use Rattle.text.specs.Read.{read_literal};
+ghost use Rattle.text.specs.Answers.{parsed, mapped};
+ghost use Rattle.reader.specs.Summary.{of_result, of_part, of_atom, of_literal, bounds, terms_measure};
 
-use crate::measures::{arity, counted, join, none};
-use crate::summaries::{Summary, settle};
-use crate::terms::{term, terms};
-use logic::Arrow;
-use scan::tables::{arrow, link, sign};
+use crate::context::Context;
+use crate::measures::{Bounds, Measure};
+use logic::{Arrow, Link, Sign};
+use scan::tables::one_of;
 use scan::words::word;
 
-// The arguments in brackets, perhaps none.
-pub fn arguments(s: &[u8], at: usize, depth: usize, table: &[u8]) -> Summary
-    ensures { result ≡ summary (terms_measure table.now) s.now (read_arguments depth (drop at s.now)) }
-{
-    let e = word(s, at, b"()");
-    if e <= s.len() {
-        return settle(s, e, none());
-    }
-    let o = word(s, at, b"(");
-    let t = term(s, o, depth, table);
-    let ts = terms(s, t.end, depth, table);
-    let m = ts.measure;
-    settle(
-        s,
-        ts.end,
-        counted(m.count + 1, join(t.measure.bounds, m.bounds)),
-    )
-}
-
 // Whether the result may be the word none.
-pub fn may_be_none(a: Arrow) -> bool
-    ensures { result ≡ may_be_none a }
+#[tactic(auto, unfolding(logic::specs::Syntax::may_be_none))]
+pub fn may_be_none(arrow: Arrow) -> bool
+    ensures { result ≡ may_be_none arrow }
 {
-    match a {
-        Arrow::Sv => false,
-        Arrow::Si => false,
-        Arrow::Mv => true,
-        Arrow::Mi => true,
-        Arrow::St => true,
-        Arrow::Mt => true,
+    matches!(arrow, Arrow::Mv | Arrow::Mi | Arrow::St | Arrow::Mt)
+}
+
+impl<'t> Context<'t> {
+    // The arguments in brackets, perhaps none.
+    #[tactic(auto, using(crate::proofs::Lists::of_lists), unfolding(text::specs::Read::read_arguments, text::specs::Read::one_of))]
+    fn arguments<'s>(self, s: &'s [u8]) -> Option<(Measure, &'s [u8])>
+        ensures { parsed result ≡ mapped (terms_measure self.entry.table.now) (read_arguments self.entry.depth s.now) }
+    {
+        if let Some(s) = word(s, b"()") {
+            return Some((Measure::empty(), s));
+        }
+        let s = word(s, b"(")?;
+        let (first, s) = self.term(s)?;
+        let (others, s) = self.terms(s)?;
+        let all = Measure {
+            count: others.count + 1,
+            bounds: first.join(others.bounds),
+        };
+        Some((all, s))
     }
-}
 
-// The result: a term, or the word none.
-pub fn result(s: &[u8], at: usize, a: Arrow, depth: usize, table: &[u8]) -> Summary
-    ensures { result ≡ summary (result_measure table.now) s.now (read_result depth a (drop at s.now)) }
-{
-    let e = word(s, at, b"none");
-    if e > s.len() {
-        return term(s, at, depth, table);
+    // The result: a term, or the word none.
+    #[tactic(auto, using(crate::proofs::Results::term_result))]
+    fn result<'s>(self, s: &'s [u8], arrow: Arrow) -> Option<(Bounds, &'s [u8])>
+        ensures { parsed result ≡ mapped (of_result (bounds self.entry.table.now)) (read_result self.entry.depth arrow s.now) }
+    {
+        let Some(s) = word(s, b"none") else {
+            return self.term(s);
+        };
+        may_be_none(arrow).then_some((Bounds::nothing(), s))
     }
-    if may_be_none(a) {
-        settle(s, e, none())
-    } else {
-        settle(s, s.len() + 1, none())
+
+    // T U) after the word eq, mem or sub.
+    #[tactic(auto, unfolding(text::specs::Read::read_link, crate::specs::Summary::of_atom))]
+    fn linked<'s>(self, s: &'s [u8]) -> Option<(Bounds, &'s [u8])>
+        ensures { (l : Link) → parsed result ≡ mapped (of_atom (bounds self.entry.table.now)) (read_link self.entry.depth l s.now) }
+    {
+        let s = word(s, b" ")?;
+        let (left, s) = self.term(s)?;
+        let s = word(s, b" ")?;
+        let (right, s) = self.term(s)?;
+        let s = word(s, b")")?;
+        Some((left.join(right), s))
     }
-}
 
-// T U) after the word eq, mem or sub.
-fn linked(s: &[u8], at: usize, depth: usize, table: &[u8]) -> Summary
-    ensures { (l : Link) → result ≡ summary (atom_measure table.now) s.now
-        (read_link depth l (drop at s.now)) }
-{
-    let t = term(s, word(s, at, b" "), depth, table);
-    let u = term(s, word(s, t.end, b" "), depth, table);
-    let e = word(s, u.end, b")");
-    settle(s, e, counted(1, join(t.measure.bounds, u.measure.bounds)))
-}
-
-// T) after the word obj.
-fn object(s: &[u8], at: usize, depth: usize, table: &[u8]) -> Summary
-    ensures { result ≡ summary (atom_measure table.now) s.now (read_object depth (drop at s.now)) }
-{
-    let t = term(s, word(s, at, b" "), depth, table);
-    let e = word(s, t.end, b")");
-    settle(s, e, t.measure)
-}
-
-// M (T ...) R), a part from its method on.
-fn part(s: &[u8], at: usize, a: Arrow, depth: usize, table: &[u8]) -> Summary
-    ensures { result ≡ summary (part_measure table.now) s.now (read_part depth a (drop at s.now)) }
-{
-    let m = term(s, at, depth, table);
-    let ts = arguments(s, word(s, m.end, b" "), depth, table);
-    let r = result(s, word(s, ts.end, b" "), a, depth, table);
-    let e = word(s, r.end, b")");
-    let given = ts.measure;
-    let terms = join(m.measure.bounds, join(given.bounds, r.measure.bounds));
-    settle(s, e, counted(1, join(arity(given.count), terms)))
-}
-
-// O M (T ...) R) after the arrow's word.
-fn method(s: &[u8], at: usize, a: Arrow, depth: usize, table: &[u8]) -> Summary
-    ensures { result ≡ summary (atom_measure table.now) s.now (read_method depth a (drop at s.now)) }
-{
-    let o = term(s, word(s, at, b" "), depth, table);
-    let p = part(s, word(s, o.end, b" "), a, depth, table);
-    let all = join(o.measure.bounds, p.measure.bounds);
-    settle(s, p.end, counted(1, all))
-}
-
-// The word of an atom decides what follows it.
-fn shape(s: &[u8], at: usize, depth: usize, table: &[u8]) -> Summary
-    ensures { result ≡ summary (atom_measure table.now) s.now (read_kind depth (drop at s.now)) }
-{
-    let l = link(s, at);
-    if l.end <= s.len() {
-        return linked(s, l.end, depth, table);
+    // T) after the word obj.
+    #[tactic(auto, unfolding(text::specs::Read::read_object, crate::specs::Summary::of_atom))]
+    fn object<'s>(self, s: &'s [u8]) -> Option<(Bounds, &'s [u8])>
+        ensures { parsed result ≡ mapped (of_atom (bounds self.entry.table.now)) (read_object self.entry.depth s.now) }
+    {
+        let s = word(s, b" ")?;
+        let (object, s) = self.term(s)?;
+        let s = word(s, b")")?;
+        Some((object, s))
     }
-    let o = word(s, at, b"obj");
-    if o <= s.len() {
-        return object(s, o, depth, table);
+
+    // M (T ...) R), a part from its method on.
+    #[tactic(auto, unfolding(text::specs::Read::read_part, crate::specs::Summary::of_part, logic::specs::Terms::count))]
+    fn part<'s>(self, s: &'s [u8], arrow: Arrow) -> Option<(Bounds, &'s [u8])>
+        ensures { parsed result ≡ mapped (of_part (bounds self.entry.table.now)) (read_part self.entry.depth arrow s.now) }
+    {
+        let (method, s) = self.term(s)?;
+        let s = word(s, b" ")?;
+        let (arguments, s) = self.arguments(s)?;
+        let s = word(s, b" ")?;
+        let (result, s) = self.result(s, arrow)?;
+        let s = word(s, b")")?;
+        let terms = method.join(arguments.bounds.join(result));
+        Some((Bounds::arity(arguments.count).join(terms), s))
     }
-    let a = arrow(s, at);
-    let kind = a.arrow;
-    method(s, a.end, kind, depth, table)
-}
 
-pub fn atom(s: &[u8], at: usize, depth: usize, table: &[u8]) -> Summary
-    ensures { result ≡ summary (atom_measure table.now) s.now (read_atom depth (drop at s.now)) }
-{
-    shape(s, word(s, at, b"("), depth, table)
-}
+    // O M (T ...) R) after the arrow's word.
+    #[tactic(auto, unfolding(text::specs::Read::read_method, crate::specs::Summary::of_atom))]
+    fn method<'s>(self, s: &'s [u8], arrow: Arrow) -> Option<(Bounds, &'s [u8])>
+        ensures { parsed result ≡ mapped (of_atom (bounds self.entry.table.now)) (read_method self.entry.depth arrow s.now) }
+    {
+        let s = word(s, b" ")?;
+        let (object, s) = self.term(s)?;
+        let s = word(s, b" ")?;
+        let (part, s) = self.part(s, arrow)?;
+        Some((object.join(part), s))
+    }
 
-pub fn literal(s: &[u8], at: usize, depth: usize, table: &[u8]) -> Summary
-    ensures { result ≡ summary (literal_measure table.now) s.now (read_literal depth (drop at s.now)) }
-{
-    let g = sign(s, word(s, at, b"("));
-    let x = atom(s, word(s, g.end, b" "), depth, table);
-    let e = word(s, x.end, b")");
-    settle(s, e, x.measure)
+    // The word of an atom decides what follows it.
+    #[tactic(auto, using(crate::proofs::AtomKinds::an_object, crate::proofs::AtomKinds::an_arrow, crate::proofs::AtomKinds::no_kind))]
+    fn shape<'s>(self, s: &'s [u8]) -> Option<(Bounds, &'s [u8])>
+        ensures { parsed result ≡ mapped (of_atom (bounds self.entry.table.now)) (read_kind self.entry.depth s.now) }
+    {
+        if let Some((_, s)) = one_of::<Link>(s) {
+            return self.linked(s);
+        }
+        if let Some(s) = word(s, b"obj") {
+            return self.object(s);
+        }
+        let (arrow, s) = one_of(s)?;
+        self.method(s, arrow)
+    }
+
+    #[tactic(auto, unfolding(text::specs::Read::read_atom))]
+    fn atom<'s>(self, s: &'s [u8]) -> Option<(Bounds, &'s [u8])>
+        ensures { parsed result ≡ mapped (of_atom (bounds self.entry.table.now)) (read_atom self.entry.depth s.now) }
+    {
+        let s = word(s, b"(")?;
+        self.shape(s)
+    }
+
+    #[tactic(auto, unfolding(text::specs::Read::read_literal, text::specs::Read::read_sign, crate::specs::Summary::of_literal))]
+    pub fn literal<'s>(self, s: &'s [u8]) -> Option<(Bounds, &'s [u8])>
+        ensures { parsed result ≡ mapped (of_literal (bounds self.entry.table.now)) (read_literal self.entry.depth s.now) }
+    {
+        let s = word(s, b"(")?;
+        let (_, s) = one_of::<Sign>(s)?;
+        let s = word(s, b" ")?;
+        let (atom, s) = self.atom(s)?;
+        let s = word(s, b")")?;
+        Some((atom, s))
+    }
 }

@@ -1,44 +1,44 @@
 // Clauses, and lists of terms after the word let.
-ghost use Rattle.std.specs.Prelude.{◌≡◌, [], ◌∷◌, drop};
+ghost use Rattle.std.specs.Prelude.{◌≡◌, [], ◌∷◌};
 ghost use Rattle.text.specs.Read.{read_many, read_literal, read_clause, read_let};
-ghost use Rattle.reader.specs.Summary.{terms_measure, clause_measure, summary};
+ghost use Rattle.text.specs.Answers.{parsed, mapped};
+ghost use Rattle.reader.specs.Summary.{terms_measure, clause_measure};
 
-use crate::atoms::literal;
-use crate::measures::{counted, join, nothing};
-use crate::summaries::{Summary, settle};
-use crate::terms::terms;
+use crate::context::Context;
+use crate::measures::Measure;
 use scan::words::word;
 
-// Literals, each after one space, up to the closing bracket.
-fn literals(s: &[u8], at: usize, depth: usize, table: &[u8]) -> Summary
-    ensures { result ≡ summary (clause_measure table.now) s.now
-        (read_many [] ◌∷◌ (read_literal depth) (drop at s.now)) }
-{
-    let mut i = at;
-    let mut m = nothing();
-    let mut count = 0;
-    let mut next = word(s, at, b" ");
-    while next <= s.len() {
-        let l = literal(s, next, depth, table);
-        i = l.end;
-        m = join(m, l.measure.bounds);
-        count += 1;
-        next = word(s, i, b" ");
+impl<'t> Context<'t> {
+    // Literals, each after one space, up to the closing bracket.
+    fn literals<'s>(self, s: &'s [u8]) -> Option<(Measure, &'s [u8])>
+        ensures { parsed result ≡ mapped (clause_measure self.entry.table.now) (read_many [] ◌∷◌ (read_literal self.entry.depth) s.now) }
+    {
+        let mut parts = Measure::empty();
+        let mut rest = s;
+        while let Some(next) = word(rest, b" ") {
+            let (part, after) = self.literal(next)?;
+            parts = parts.and(part);
+            rest = after;
+        }
+        let rest = word(rest, b")")?;
+        Some((parts, rest))
     }
-    let e = word(s, i, b")");
-    settle(s, e, counted(count, m))
-}
 
-// A clause: how many literals, and their bounds.
-pub fn clause(s: &[u8], at: usize, depth: usize, table: &[u8]) -> Summary
-    ensures { result ≡ summary (clause_measure table.now) s.now (read_clause depth (drop at s.now)) }
-{
-    literals(s, word(s, at, b"(or"), depth, table)
-}
+    // A clause.
+    #[tactic(auto, unfolding(text::specs::Read::read_clause))]
+    pub fn clause<'s>(self, s: &'s [u8]) -> Option<(Measure, &'s [u8])>
+        ensures { parsed result ≡ mapped (clause_measure self.entry.table.now) (read_clause self.entry.depth s.now) }
+    {
+        let s = word(s, b"(or")?;
+        self.literals(s)
+    }
 
-// A list of terms after the word let.
-pub fn list(s: &[u8], at: usize, depth: usize, table: &[u8]) -> Summary
-    ensures { result ≡ summary (terms_measure table.now) s.now (read_let depth (drop at s.now)) }
-{
-    terms(s, word(s, at, b"(let"), depth, table)
+    // A list of terms after the word let.
+    #[tactic(auto, unfolding(text::specs::Read::read_let))]
+    pub fn list<'s>(self, s: &'s [u8]) -> Option<(Measure, &'s [u8])>
+        ensures { parsed result ≡ mapped (terms_measure self.entry.table.now) (read_let self.entry.depth s.now) }
+    {
+        let s = word(s, b"(let")?;
+        self.terms(s)
+    }
 }

@@ -1,18 +1,18 @@
 // One line: what it is, its numbers, and of its clause and its lists where they begin and what they measure.
-ghost use Rattle.std.specs.Prelude.{◌≡◌, drop};
-ghost use Rattle.text.specs.Read.{read_sym, read_input, read_step, whole, read_line};
-ghost use Rattle.scan.specs.Numbers.{number_at};
-ghost use Rattle.reader.specs.LineAt.{read_spaced, head_at, line_of};
+ghost use Rattle.std.specs.Prelude.{◌≡◌, List, ℕ};
+ghost use Rattle.text.specs.Read.{read_sym, read_input, read_step, read_form, whole, read_line};
+ghost use Rattle.text.specs.Answers.{parsed};
+ghost use Rattle.reader.specs.LineAt.{read_spaced, read_head, place_of, closed, line_of};
 
-use crate::clauses::{clause, list};
+use crate::context::Context;
 use crate::measures::Measure;
 use logic::Rule;
-use scan::numbers::{NumberAt, number};
-use scan::tables::rule;
+use scan::numbers::number;
+use scan::tables::one_of;
 use scan::words::word;
 
 // A clause or a list of a line: where it begins, and its measure.
-#[derive(Clone, Copy)]
+#[derive(Clone, Copy, Debug, PartialEq, Eq)]
 pub struct ItemAt {
     pub start: usize,
     pub measure: Measure,
@@ -32,140 +32,150 @@ pub struct StepAt {
     pub claim: ItemAt,
 }
 
-// What a line is: no form; K of a sym line; the clause of an in line; a step.
+// What a line is that is a form: K of a sym line; the clause of an in line; a step.
 #[derive(Clone, Copy)]
 pub enum LineAt {
-    NoForm,
     Sym(usize),
     Input(ItemAt),
     By(StepAt),
 }
 
-// K) after the word sym.
-fn sym_line(s: &[u8], at: usize, table: &[u8]) -> LineAt
-    ensures { result ≡ line_of table.now s.now (whole (read_sym (drop at s.now))) }
+// The place in the line where its last bytes begin.
+fn place(line: &[u8], rest: &[u8]) -> usize
+    ensures { result ≡ place_of line.now rest.now }
 {
-    let k = number(s, at);
-    let e = word(s, k.end, b")");
-    if e == s.len() {
-        LineAt::Sym(k.value)
-    } else {
-        LineAt::NoForm
-    }
+    line.len().saturating_sub(rest.len())
 }
 
-// CLAUSE) after the word in.
-fn input_line(s: &[u8], at: usize, depth: usize, table: &[u8]) -> LineAt
-    ensures { result ≡ line_of table.now s.now (whole (read_input depth (drop at s.now))) }
+// The closing bracket, and nothing after it.
+#[tactic(auto, unfolding(crate::specs::LineAt::closed))]
+fn closes(s: &[u8]) -> bool
+    ensures { result ≡ closed s.now }
 {
-    let c = clause(s, at, depth, table);
-    let m = c.measure;
-    let e = word(s, c.end, b")");
-    if e == s.len() {
-        LineAt::Input(ItemAt {
-            start: at,
-            measure: m,
-        })
-    } else {
-        LineAt::NoForm
-    }
+    matches!(s, [b')'])
+}
+
+// K) after the word sym.
+fn sym_line(s: &[u8]) -> Option<LineAt>
+    ensures { (table line : List ℕ) → result ≡ line_of table line (whole (read_sym s.now)) }
+{
+    let (k, s) = number(s)?;
+    closes(s).then_some(LineAt::Sym(k))
 }
 
 // A number after one space.
-fn spaced(s: &[u8], at: usize) -> NumberAt
-    ensures { result ≡ number_at s.now (read_spaced (drop at s.now)) }
+#[tactic(auto, unfolding(crate::specs::LineAt::read_spaced))]
+fn spaced(s: &[u8]) -> Option<(usize, &[u8])>
+    ensures { parsed result ≡ read_spaced s.now }
 {
-    number(s, word(s, at, b" "))
+    let s = word(s, b" ")?;
+    number(s)
 }
 
-// RULE A I B J K of a step, and the place past them.
+// RULE A I B J K of a step.
 #[derive(Clone, Copy)]
-struct HeadAt {
+struct Head {
     rule: Rule,
     a: usize,
     i: usize,
     b: usize,
     j: usize,
     k: usize,
-    end: usize,
 }
 
 // RULE A I B J K after the word by.
-fn step_head(s: &[u8], at: usize) -> HeadAt
-    ensures { result ≡ head_at s.now at }
+#[tactic(auto, unfolding(crate::specs::LineAt::read_head, text::specs::Read::read_rule))]
+fn step_head(s: &[u8]) -> Option<(Head, &[u8])>
+    ensures { parsed result ≡ read_head s.now }
 {
-    let r = rule(s, at);
-    let a = spaced(s, r.end);
-    let i = spaced(s, a.end);
-    let b = spaced(s, i.end);
-    let j = spaced(s, b.end);
-    let k = spaced(s, j.end);
-    let rule = r.rule;
-    HeadAt {
-        rule,
-        a: a.value,
-        i: i.value,
-        b: b.value,
-        j: j.value,
-        k: k.value,
-        end: k.end,
+    let (rule, s) = one_of(s)?;
+    let (a, s) = spaced(s)?;
+    let (i, s) = spaced(s)?;
+    let (b, s) = spaced(s)?;
+    let (j, s) = spaced(s)?;
+    let (k, s) = spaced(s)?;
+    Some((
+        Head {
+            rule,
+            a,
+            i,
+            b,
+            j,
+            k,
+        },
+        s,
+    ))
+}
+
+impl<'t> Context<'t> {
+    // CLAUSE) after the word in.
+    #[tactic(auto, using(crate::proofs::Lines::no_line), unfolding(text::specs::Read::read_input))]
+    fn input_line(self, line: &[u8], s: &[u8]) -> Option<LineAt>
+        ensures { result ≡ line_of self.entry.table.now line.now (whole (read_input self.entry.depth s.now)) }
+    {
+        let start = place(line, s);
+        let (measure, s) = self.clause(s)?;
+        closes(s).then_some(LineAt::Input(ItemAt { start, measure }))
+    }
+
+    // RULE A I B J K LET LET CLAUSE) after the word by.
+    #[tactic(auto, using(crate::proofs::Steps::step_splits, crate::proofs::Lines::no_line), unfolding(crate::proofs::Steps::step_body))]
+    fn step_line(self, line: &[u8], s: &[u8]) -> Option<LineAt>
+        ensures { result ≡ line_of self.entry.table.now line.now (whole (read_step self.entry.depth s.now)) }
+    {
+        let (head, s) = step_head(s)?;
+        let first = word(s, b" ")?;
+        let (firsts, s) = self.list(first)?;
+        let second = word(s, b" ")?;
+        let (seconds, s) = self.list(second)?;
+        let claim = word(s, b" ")?;
+        let (claimed, s) = self.clause(claim)?;
+        closes(s).then_some(LineAt::By(StepAt {
+            rule: head.rule,
+            a: head.a,
+            i: head.i,
+            b: head.b,
+            j: head.j,
+            k: head.k,
+            first: ItemAt {
+                start: place(line, first),
+                measure: firsts,
+            },
+            second: ItemAt {
+                start: place(line, second),
+                measure: seconds,
+            },
+            claim: ItemAt {
+                start: place(line, claim),
+                measure: claimed,
+            },
+        }))
+    }
+
+    #[tactic(auto, using(crate::proofs::Lines::no_line), unfolding(text::specs::Read::read_form, text::specs::Read::one_of))]
+    fn form(self, s: &[u8]) -> Option<LineAt>
+        ensures { result ≡ line_of self.entry.table.now s.now (whole (read_form self.entry.depth s.now)) }
+    {
+        if let Some(s) = word(s, b"(sym ") {
+            return sym_line(s);
+        }
+        if let Some(rest) = word(s, b"(in ") {
+            return self.input_line(s, rest);
+        }
+        let rest = word(s, b"(by ")?;
+        self.step_line(s, rest)
     }
 }
 
-// RULE A I B J K LET LET CLAUSE) after the word by.
-fn step_line(s: &[u8], at: usize, depth: usize, table: &[u8]) -> LineAt
-    ensures { result ≡ line_of table.now s.now (whole (read_step depth (drop at s.now))) }
-{
-    let head = step_head(s, at);
-    let first = word(s, head.end, b" ");
-    let f = list(s, first, depth, table);
-    let second = word(s, f.end, b" ");
-    let g = list(s, second, depth, table);
-    let claim = word(s, g.end, b" ");
-    let c = clause(s, claim, depth, table);
-    let e = word(s, c.end, b")");
-    if e != s.len() {
-        return LineAt::NoForm;
-    }
-    let firsts = f.measure;
-    let seconds = g.measure;
-    let claimed = c.measure;
-    let rule = head.rule;
-    LineAt::By(StepAt {
-        rule,
-        a: head.a,
-        i: head.i,
-        b: head.b,
-        j: head.j,
-        k: head.k,
-        first: ItemAt {
-            start: first,
-            measure: firsts,
-        },
-        second: ItemAt {
-            start: second,
-            measure: seconds,
-        },
-        claim: ItemAt {
-            start: claim,
-            measure: claimed,
-        },
-    })
-}
-
-// A line without its line end, over the table of argument counts, its terms at most `depth` deep.
-pub fn line(s: &[u8], table: &[u8], depth: u8) -> LineAt
+// A line without its line end, over the table of argument counts, its terms at most `depth` deep: None if it is no form.
+#[tactic(auto, unfolding(text::specs::Read::read_line))]
+pub fn line(s: &[u8], table: &[u8], depth: u8) -> Option<LineAt>
     ensures value { result ≡ line_of table.now s.now (read_line depth s.now) }
     ensures s_unchanged { (s.exit.now ≡ s.entry.now) × (table.exit.now ≡ table.entry.now) }
 {
-    let deep = depth as usize;
-    let y = word(s, 0, b"(sym ");
-    if y <= s.len() {
-        return sym_line(s, y, table);
-    }
-    let i = word(s, 0, b"(in ");
-    if i <= s.len() {
-        return input_line(s, i, deep, table);
-    }
-    step_line(s, word(s, 0, b"(by "), deep, table)
+    let context = Context {
+        table,
+        depth: depth as usize,
+    };
+    context.form(s)
 }

@@ -3,7 +3,7 @@
 
 mod atoms;
 mod clauses;
+mod context;
 pub mod forms;
 pub mod measures;
-mod summaries;
 mod terms;

@@ -1,14 +1,14 @@
 -- A table with a row for each rule: what stands in a rule's row is what the definition says of the rule.
-use Prim.Native.Nat.{ℕ, zero, suc, ◌<◌, ◌≤◌}
-use mathlib.Core.Path.{◌≡◌, refl, sym, ◌∙◌, ap}
-use mathlib.Core.Bool.{false}
+use Prim.Native.Nat.{ℕ, zero, suc, ◌<◌}
+use mathlib.Core.Path.{◌≡◌, refl, ◌∙◌, ap}
+use mathlib.Core.Bool.{Bool}
 use mathlib.Core.List.{List, [], ◌∷◌, map}
 use native.Mathlib.Omega.{arith}
-use lib.ListN.{length, get_or, get_or-eq_default}
+use lib.ListN.{length, get_or}
 use Rattle.logic.specs.declared.Rule.{Rule}
 use Rattle.logic.specs.declared.Rule.TheVariants.{Refl, Res, Fac, Par, Acy, Tra, Inc, Inh, Inp, Out, Sca, Eli}
-use Rattle.logic.specs.Rules.{uses}
-use Rattle.rule_numbers.specs.Uses.{rule_row, flags, uses_at}
+use Rattle.logic.specs.Rules.{Uses}
+use Rattle.rule_numbers.specs.Uses.{rule_row}
 
 abbrev pub rules : List Rule
 rules = Refl ∷ Res ∷ Fac ∷ Par ∷ Acy ∷ Tra ∷ Inc ∷ Inh ∷ Inp ∷ Out ∷ Sca ∷ Eli ∷ []
@@ -42,6 +42,6 @@ row_of_lem f d (r ∷ rs) (suc n) h = row_of_lem f d rs n (omega arith)
 pub carried : {A : Type 0} (f : Rule → A) (d : A) (rule : Rule) → get_or (map f rules) (rule_row rule) d ≡ f rule
 carried f d rule = row_of_lem f d rules (rule_row rule) (placed rule).below ∙ ap f (placed rule).there
 
-pub past_columns : (rule : Rule) (w : ℕ) → 5 ≤ w → false ≡ uses_at rule w
-unfolding uses_at
-past_columns rule w h = sym (get_or-eq_default (flags (uses rule)) false h)
+-- The flags of A I B J K, as a row of the table has them.
+abbrev pub flags : Uses → List Bool
+flags u = u.a ∷ u.i ∷ u.b ∷ u.j ∷ u.k ∷ []

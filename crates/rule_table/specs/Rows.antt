@@ -1,133 +1,134 @@
 -- Nothing here is to be believed: `judge_meets` (crates/rules/proofs/JudgeMeets) says what it gives on written clauses.
--- Checks 9 and 10 in bytes: the rule table, row by row. The literals at I and J begin at the places i of p and j of q.
-use Rattle.std.specs.Prelude.{ℕ, ◌+◌, Bool, true, false, cond, not, ◌&&◌, List, eqb, length}
+-- Checks 9 and 10 in bytes: the rule table, row by row. The literals at I and J are what stands from them on.
+use Rattle.std.specs.Prelude.{ℕ, Bool, true, false, cond, not, ◌&&◌, List, eqb, length, Option, Some, None}
 use Rattle.logic.specs.declared.Link.{Link}
 use Rattle.logic.specs.declared.Link.TheVariants.{Eq, Mem, Sub}
 use Rattle.logic.specs.declared.Rule.{Rule}
 use Rattle.logic.specs.declared.Rule.TheVariants.{Refl, Res, Fac, Par, Acy, Tra, Inc, Inh, Inp, Out, Sca, Eli}
-use Rattle.logic.specs.declared.Judged.{Judged}
-use Rattle.logic.specs.declared.Judged.TheVariants.{Passed, Misshapen, Disagrees}
-use Rattle.clauses.specs.Shapes.{next_at, positive_at, negative_at, link_at, denied_at, occurrence_at, signature_at, scalar_at, method_argument_at, value_at}
-use Rattle.filling.specs.Agree.{agree_at, calls_at}
-use Rattle.clauses.specs.Shapes.{within}
-use Rattle.filling.specs.Covers.{covers_at}
-use Rattle.clauses.specs.Shapes.{same_sign_at, atom_at, same_arrow_at}
-use Rattle.rule_table.specs.declared.Kind.{Kind}
-use Rattle.rule_table.specs.declared.Kind.TheVariants.{Reflexivity, Resolution, Factoring, Rewriting}
-use Rattle.rule_table.specs.declared.Kind.TheVariants.{Acyclicity, Scalarity, Elimination}
+use Rattle.text.specs.Read.{Parsed, bad, got, Reader, ◌>>◌}
+use Rattle.text.specs.Access.{to_occurrence}
+use Rattle.clauses.specs.Shapes.{next, positive, negative, atom, link, denied, scalar, signature, value_of, argument_of}
+use Rattle.clauses.specs.Shapes.{same_sign, same_arrow}
+use Rattle.filling.specs.Items.{Item, beside}
+use Rattle.agreement.specs.Agrees.{agrees, calls_agree, is_covered}
 use Rattle.rule_table.specs.declared.Target.{Target}
-use Rattle.rule_table.specs.declared.Target.TheVariants.{Nothing, Occurrence, Subclass, Member, Object, Argument, Result}
+use Rattle.rule_table.specs.declared.Target.TheVariants.{Occurrence, Subclass, Member, Object, Argument, Result}
 use Rattle.rule_table.specs.declared.Row.{Row}
+use Rattle.rule_table.specs.declared.Row.TheVariants.{Reflexivity, Resolution, Factoring, Rewriting, Acyclicity, Scalarity, Elimination}
 use Rattle.rule_table.specs.declared.Found.{Found}
-
-abbrev row : Kind → Target → Link → Bool → Row
-row kind target link forward = record { kind = kind; target = target; link = link; forward = forward }
+use Rattle.rule_table.specs.declared.Found.TheVariants as code
 
 -- R8 to R19: what a rule asks of its literals; of a rewriting rule the term of the literal at I that it replaces, the link at J, and
 -- whether the link's first term agrees and its second takes the term's place, or the other way round.
 abbrev pub row_of : Rule → Row
-row_of Refl = row Reflexivity Nothing Sub true
-row_of Res = row Resolution Nothing Sub true
-row_of Fac = row Factoring Nothing Sub true
-row_of Par = row Rewriting Occurrence Eq true
-row_of Acy = row Acyclicity Nothing Sub true
-row_of Tra = row Rewriting Subclass Sub true
-row_of Inc = row Rewriting Member Sub true
-row_of Inh = row Rewriting Object Sub false
-row_of Inp = row Rewriting Argument Sub false
-row_of Out = row Rewriting Result Sub true
-row_of Sca = row Scalarity Nothing Sub true
-row_of Eli = row Elimination Nothing Sub true
+row_of Refl = Reflexivity
+row_of Res = Resolution
+row_of Fac = Factoring
+row_of Par = Rewriting Occurrence Eq true
+row_of Acy = Acyclicity
+row_of Tra = Rewriting Subclass Sub true
+row_of Inc = Rewriting Member Sub true
+row_of Inh = Rewriting Object Sub false
+row_of Inp = Rewriting Argument Sub false
+row_of Out = Rewriting Result Sub true
+row_of Sca = Scalarity
+row_of Eli = Elimination
 
 -- The term that a rewriting rule replaces. R11, R20: "term occurrence K", "counted from 0 in the literal at I as it is before filling".
 -- R13, R14: the second term of + sub or + mem. R15 to R17: "+ st or mt with object P", "an argument K", "a term result R".
-unfoldable pub target_place : Target → ℕ → List ℕ → ℕ → ℕ
-target_place Nothing k p at = length p + 1
-target_place Occurrence k p at = occurrence_at p at k
-target_place Subclass k p at = next_at p (link_at p Sub at)
-target_place Member k p at = next_at p (link_at p Mem at)
-target_place Object k p at = signature_at p at
-target_place Argument k p at = method_argument_at p (signature_at p at) k
-target_place Result k p at = value_at p (signature_at p at)
+unfoldable pub term_at : Target → ℕ → Reader (Unit {0})
+term_at Occurrence k = to_occurrence k
+term_at Subclass k = link Sub >> next
+term_at Member k = link Mem >> next
+term_at Object k = signature
+term_at Argument k = signature >> argument_of k
+term_at Result k = signature >> value_of
 
-abbrev pub target_at : List ℕ → Rule → ℕ → ℕ → ℕ
-target_at p rule k at = target_place (row_of rule).target k p at
+-- What a step names in its parents, each by what stands from it on: what has to agree, and what the new literal is made of. R8: nothing.
+-- R9, R10: an atom, and one that has to cover it. R11, R13 to R17: the literal at I, a term of it, the side of the link at J that it has to
+-- agree with, and the other side. R12: P, Q, P' and Q'. R18: whether the arrows are the same, object and result, and those of the other.
+-- R19: nothing.
+pub data FoundAt : Type 0 where
+  nothing : FoundAt
+  covering : List ℕ → List ℕ → FoundAt
+  rewriting : List ℕ → List ℕ → List ℕ → List ℕ → FoundAt
+  crossing : List ℕ → List ℕ → List ℕ → List ℕ → FoundAt
+  calling : Bool → List ℕ → List ℕ → List ℕ → List ℕ → FoundAt
+  denied_term : FoundAt
 
--- Whether the shape is right and the arrow the same, the literal at I, and two places in each clause.
-abbrev found : Kind → Bool → Bool → ℕ → ℕ → ℕ → ℕ → ℕ → Found
-found kind shaped arrows i left more right other =
-    record { kind = kind; shaped = shaped; arrows = arrows; literal = i; left = left; more = more; right = right; other = other }
+-- The code's answer.
+abbrev pub at_found : Found → FoundAt
+at_found code.Nothing = nothing
+at_found (code.Covering left right) = covering left.now right.now
+at_found (code.Rewriting literal term side other) = rewriting literal.now term.now side.now other.now
+at_found (code.Crossing left more right other) = crossing left.now more.now right.now other.now
+at_found (code.Calling same left value right other) = calling same left.now value.now right.now other.now
+at_found code.Denied = denied_term
 
--- R8, refl: "no parent". No term has to agree.
-abbrev pub nothing_found : Kind → ℕ → Found
-nothing_found kind i = found kind true true i 0 0 0 0
+abbrev pub found_of : Option Found → Option FoundAt
+found_of None = None
+found_of (Some f) = Some (at_found f)
+
+-- What is found behind what was passed.
+unfoldable pub behind : Parsed (Unit {0}) → (List ℕ → Option FoundAt) → Option FoundAt
+behind bad f = None
+behind (got u rest) f = f rest
 
 -- R9, res, "- L, + L'": the two atoms.
-unfoldable pub resolved : List ℕ → ℕ → List ℕ → ℕ → Found
-resolved p i q j =
-    let x = negative_at p i in
-    let y = positive_at q j in
-    found Resolution (within p x && within q y) true i x 0 y 0
+unfoldable pub resolved : List ℕ → List ℕ → Option FoundAt
+resolved x y = behind (negative x) (λ l. behind (positive y) (λ r. Some (covering l r)))
 
--- R10, fac, "A only; I and J differ, both literals have the same sign": q is p.
-unfoldable pub factored : List ℕ → ℕ → List ℕ → ℕ → Found
-factored p i q j = found Factoring (not (eqb i j) && same_sign_at p i q j) true i (atom_at p i) 0 (atom_at q j) 0
+-- R10, fac, "A only; I and J differ, both literals have the same sign": as many bytes stand from the one on as from the other only where
+-- they are one.
+unfoldable pub factored : List ℕ → List ℕ → Option FoundAt
+factored x y =
+    cond (not (eqb (length x) (length y)) && same_sign x y) (behind (atom x) (λ l. behind (atom y) (λ r. Some (covering l r)))) None
 
 -- R11, R13 to R17, par, tra, inc, inh, inp, out: the term, the side of the link that has to agree with it, and the other side.
-unfoldable pub replaced : Row → ℕ → List ℕ → ℕ → List ℕ → ℕ → Found
-replaced r k p i q j =
-    let x = target_place r.target k p i in
-    let y = link_at q r.link j in
-    let z = next_at q y in
-    found Rewriting (within p x && within q z) true i x 0 (cond r.forward y z) (cond r.forward z y)
+unfoldable pub replaced : Target → Link → Bool → ℕ → List ℕ → List ℕ → Option FoundAt
+replaced target kind forward k x y =
+    behind (term_at target k x) (λ t.
+    behind (link kind y) (λ u.
+    behind (next u) (λ v.
+    Some (rewriting x t (cond forward u v) (cond forward v u)))))
 
 -- R12, acy, "+ sub(P,Q), + sub(Q',P')": P and Q, P' and Q'.
-unfoldable pub crossed : List ℕ → ℕ → List ℕ → ℕ → Found
-crossed p i q j =
-    let x = link_at p Sub i in
-    let y = link_at q Sub j in
-    found Acyclicity (within p (next_at p x) && within q (next_at q y)) true i x (next_at p x) (next_at q y) y
+unfoldable pub crossed : List ℕ → List ℕ → Option FoundAt
+crossed x y =
+    behind (link Sub x) (λ p.
+    behind (next p) (λ q.
+    behind (link Sub y) (λ q'.
+    behind (next q') (λ p'.
+    Some (crossing p q p' q')))))
 
 -- R18, sca, "+ sv or si with result R, + sv or si with result R'": the objects and the results, and whether the arrow is the same.
-unfoldable pub called : List ℕ → ℕ → List ℕ → ℕ → Found
-called p i q j =
-    let x = scalar_at p i in
-    let y = scalar_at q j in
-    found Scalarity (within p (value_at p x) && within q (value_at q y)) (same_arrow_at p i q j) i x (value_at p x) y (value_at q y)
+unfoldable pub called : List ℕ → List ℕ → Option FoundAt
+called x y =
+    behind (scalar x) (λ o.
+    behind (scalar y) (λ o'.
+    behind (value_of o) (λ r.
+    behind (value_of o') (λ r'.
+    Some (calling (same_arrow x y) o r o' r')))))
 
 -- R19, eli: "A only; - obj(P) at I". No term has to agree.
-abbrev pub denying : List ℕ → ℕ → Found
-denying p i = found Elimination (within p (denied_at p i)) true i 0 0 0 0
+unfoldable pub denying : List ℕ → Option FoundAt
+denying x = behind (denied x) (λ p. Some denied_term)
 
--- The shape (V19): "a position, sign, kind of atom, result, K, or pair I, J".
-unfoldable pub found_by : Kind → Row → ℕ → List ℕ → ℕ → List ℕ → ℕ → Found
-found_by Reflexivity r k p i q j = nothing_found Reflexivity i
-found_by Resolution r k p i q j = resolved p i q j
-found_by Factoring r k p i q j = factored p i q j
-found_by Rewriting r k p i q j = replaced r k p i q j
-found_by Acyclicity r k p i q j = crossed p i q j
-found_by Scalarity r k p i q j = called p i q j
-found_by Elimination r k p i q j = denying p i
+-- The shape (V19): "a position, sign, kind of atom, result, K, or pair I, J". R8, refl: "no parent".
+unfoldable pub found_by : Row → ℕ → Parsed (Unit {0}) → Parsed (Unit {0}) → Option FoundAt
+found_by Reflexivity k i j = Some nothing
+found_by Resolution k i j = behind i (λ x. behind j (λ y. resolved x y))
+found_by Factoring k i j = behind i (λ x. behind j (λ y. factored x y))
+found_by (Rewriting target kind forward) k i j = behind i (λ x. behind j (λ y. replaced target kind forward k x y))
+found_by Acyclicity k i j = behind i (λ x. behind j (λ y. crossed x y))
+found_by Scalarity k i j = behind i (λ x. behind j (λ y. called x y))
+found_by Elimination k i j = behind i denying
 
-abbrev pub found_at : Rule → ℕ → List ℕ → ℕ → List ℕ → ℕ → Found
-found_at rule k p i q j = found_by (row_of rule).kind (row_of rule) k p i q j
-
--- The "agreement, filled" (V20), of terms that nest at most so deep.
-unfoldable pub agrees_by : ℕ → Kind → Found → List ℕ → List ℕ → List ℕ → List ℕ → List ℕ → Bool
-agrees_by depth Reflexivity f p line starts q others = true
-agrees_by depth Resolution f p line starts q others = covers_at depth p f.left line starts q f.right others
-agrees_by depth Factoring f p line starts q others = covers_at depth p f.left line starts q f.right others
-agrees_by depth Rewriting f p line starts q others = agree_at depth p f.left line starts q f.right others
-agrees_by depth Acyclicity f p line starts q others =
-    agree_at depth p f.left line starts q f.right others && agree_at depth p f.more line starts q f.other others
-agrees_by depth Scalarity f p line starts q others = f.arrows && calls_at depth p f.left line starts q f.right others
-agrees_by depth Elimination f p line starts q others = true
-
--- V19, V20: what checks 9 and 10 say.
-unfoldable pub answer : Bool → Bool → Judged
-answer shaped agrees = cond shaped (cond agrees Passed Disagrees) Misshapen
-
-unfoldable pub row_at : ℕ → Rule → ℕ → List ℕ → ℕ → List ℕ → List ℕ → List ℕ → ℕ → List ℕ → Judged
-row_at depth rule k p i line starts q j others =
-    let f = found_at rule k p i q j in
-    answer f.shaped (agrees_by depth f.kind f p line starts q others)
+-- The "agreement, filled" (V20), of terms that nest at most so deep: of what was found in the clauses x and y.
+unfoldable pub agrees_by : ℕ → Item → Item → FoundAt → Bool
+agrees_by depth x y nothing = true
+agrees_by depth x y (covering l r) = is_covered depth (beside x l) (beside y r)
+agrees_by depth x y (rewriting l t s o) = agrees depth (beside x t) (beside y s)
+agrees_by depth x y (crossing p q p' q') = agrees depth (beside x p) (beside y p') && agrees depth (beside x q) (beside y q')
+agrees_by depth x y (calling same o r o' r') = same && calls_agree depth (beside x o) (beside y o')
+agrees_by depth x y denied_term = true

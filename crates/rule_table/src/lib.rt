@@ -1,36 +1,26 @@
-// Checks 9 and 10: the rule table. The literals at I and J begin at the places x of clause a and y of clause b.
+// Checks 9 and 10: the rule table, over what stands in the clauses from the literals at I and J on.
 #![tactic(auto)]
 
 ghost use Rattle.std.specs.Prelude.{◌≡◌};
-ghost use Rattle.rule_table.specs.Rows.{row_of, target_place, nothing_found, found_by, resolved, factored, replaced, crossed, called, denying, agrees_by};
+ghost use Rattle.text.specs.Answers.{passed};
+ghost use Rattle.rule_table.specs.Rows.{row_of, term_at, at_found, found_of, found_by, agrees_by};
+ghost use Rattle.rule_table.specs.Rows.{resolved, factored, replaced, crossed, called, denying};
+ghost use Rattle.filling.specs.Items.{item_of};
 
 use agreement::agree::{agree, calls, covers};
-use choices::{both, choose};
 use clauses::access::occurrence;
 use clauses::shapes::{
     argument, atom, denied, link, negative, next, positive, same_arrow, same_sign, scalar,
-    signature, value, within,
+    signature, value,
 };
+use filling::compare::Filled;
 use logic::{Link, Rule};
 use rule_numbers::row;
 
-// What a rule asks of its literals.
-#[derive(Clone, Copy)]
-pub enum Kind {
-    Reflexivity,
-    Resolution,
-    Factoring,
-    Rewriting,
-    Acyclicity,
-    Scalarity,
-    Elimination,
-}
-
 // The term of the literal at I that a rewriting rule replaces: occurrence K, the second term of sub or mem, or the object, argument K or
 // the term result of a signature.
-#[derive(Clone, Copy)]
+#[derive(Clone, Copy, Debug, PartialEq, Eq)]
 pub enum Target {
-    Nothing,
     Occurrence,
     Subclass,
     Member,
@@ -39,262 +29,262 @@ pub enum Target {
     Result,
 }
 
-// A row of the rule table. A rewriting rule has a link at J: forward, the target agrees with its first term and the second takes its place.
-#[derive(Clone, Copy)]
-pub struct Row {
-    pub kind: Kind,
-    pub target: Target,
-    pub link: Link,
-    pub forward: bool,
+// A row of the rule table: what a rule asks of its literals. A rewriting rule has a link at J: forward, the target agrees with its first
+// term and the second takes its place; otherwise the other way round.
+#[derive(Clone, Copy, Debug, PartialEq, Eq)]
+pub enum Row {
+    Reflexivity,
+    Resolution,
+    Factoring,
+    Rewriting {
+        target: Target,
+        link: Link,
+        forward: bool,
+    },
+    Acyclicity,
+    Scalarity,
+    Elimination,
 }
 
 const ROWS: [Row; 12] = [
-    Row {
-        kind: Kind::Reflexivity,
-        target: Target::Nothing,
-        link: Link::Sub,
-        forward: true,
-    },
-    Row {
-        kind: Kind::Resolution,
-        target: Target::Nothing,
-        link: Link::Sub,
-        forward: true,
-    },
-    Row {
-        kind: Kind::Factoring,
-        target: Target::Nothing,
-        link: Link::Sub,
-        forward: true,
-    },
-    Row {
-        kind: Kind::Rewriting,
+    Row::Reflexivity,
+    Row::Resolution,
+    Row::Factoring,
+    Row::Rewriting {
         target: Target::Occurrence,
         link: Link::Eq,
         forward: true,
     },
-    Row {
-        kind: Kind::Acyclicity,
-        target: Target::Nothing,
-        link: Link::Sub,
-        forward: true,
-    },
-    Row {
-        kind: Kind::Rewriting,
+    Row::Acyclicity,
+    Row::Rewriting {
         target: Target::Subclass,
         link: Link::Sub,
         forward: true,
     },
-    Row {
-        kind: Kind::Rewriting,
+    Row::Rewriting {
         target: Target::Member,
         link: Link::Sub,
         forward: true,
     },
-    Row {
-        kind: Kind::Rewriting,
+    Row::Rewriting {
         target: Target::Object,
         link: Link::Sub,
         forward: false,
     },
-    Row {
-        kind: Kind::Rewriting,
+    Row::Rewriting {
         target: Target::Argument,
         link: Link::Sub,
         forward: false,
     },
-    Row {
-        kind: Kind::Rewriting,
+    Row::Rewriting {
         target: Target::Result,
         link: Link::Sub,
         forward: true,
     },
-    Row {
-        kind: Kind::Scalarity,
-        target: Target::Nothing,
-        link: Link::Sub,
-        forward: true,
-    },
-    Row {
-        kind: Kind::Elimination,
-        target: Target::Nothing,
-        link: Link::Sub,
-        forward: true,
-    },
+    Row::Scalarity,
+    Row::Elimination,
 ];
-
-// What a step names in its parents. Whether the shape is right; for two arrow atoms, whether the arrow is the same; the literal at I; two
-// places in clause a, two in clause b: `left` has to agree with `right`.
-#[derive(Clone, Copy)]
-pub struct Found {
-    pub kind: Kind,
-    pub shaped: bool,
-    pub arrows: bool,
-    pub literal: usize,
-    pub left: usize,
-    pub more: usize,
-    pub right: usize,
-    pub other: usize,
-}
 
 // The rule's row.
 pub fn table_row(rule: Rule) -> Row
     ensures { result ≡ row_of rule }
 {
-    let n = row(rule);
-    ROWS[n]
+    ROWS[row(rule)]
 }
 
-// The term that a rewriting rule replaces.
-fn target_place(target: Target, k: usize, clause: &[u8], at: usize) -> usize
-    ensures { result ≡ target_place target k clause.now at }
+// What a step names in its parents, each term or atom by the bytes from where it begins: what has to agree, and what the new literal is
+// made of.
+#[derive(Clone, Copy)]
+pub enum Found<'a> {
+    // refl: no term has to agree.
+    Nothing,
+    // res, fac: the atom on the right has to cover the one on the left.
+    Covering {
+        left: &'a [u8],
+        right: &'a [u8],
+    },
+    // par, tra, inc, inh, inp, out: a term of the literal at I, the side of the link at J that it agrees with, and the other side.
+    Rewriting {
+        literal: &'a [u8],
+        term: &'a [u8],
+        side: &'a [u8],
+        other: &'a [u8],
+    },
+    // acy: P and Q of the one link, P' and Q' of the other.
+    Crossing {
+        left: &'a [u8],
+        more: &'a [u8],
+        right: &'a [u8],
+        other: &'a [u8],
+    },
+    // sca: whether the arrows are the same, and object and result of the one atom, of the other.
+    Calling {
+        same_arrow: bool,
+        left: &'a [u8],
+        value: &'a [u8],
+        right: &'a [u8],
+        other: &'a [u8],
+    },
+    // eli: no term has to agree.
+    Denied,
+}
+
+// The term of the literal that a rewriting rule replaces.
+#[tactic(auto, unfolding(crate::specs::Rows::term_at))]
+fn term(target: Target, k: usize, literal: &[u8]) -> Option<&[u8]>
+    ensures { passed result ≡ term_at target k literal.now }
 {
     match target {
-        Target::Nothing => clause.len() + 1,
-        Target::Occurrence => occurrence(clause, at, k),
-        Target::Subclass => next(clause, link(clause, Link::Sub, at)),
-        Target::Member => next(clause, link(clause, Link::Mem, at)),
-        Target::Object => signature(clause, at),
-        Target::Argument => argument(clause, signature(clause, at), k),
-        Target::Result => value(clause, signature(clause, at)),
-    }
-}
-
-// No place but the literal at I, and nothing asked of it: so for refl.
-fn nothing_found(kind: Kind, x: usize) -> Found
-    ensures { result ≡ nothing_found kind x }
-{
-    Found {
-        kind,
-        shaped: true,
-        arrows: true,
-        literal: x,
-        left: 0,
-        more: 0,
-        right: 0,
-        other: 0,
+        Target::Occurrence => occurrence(literal, k),
+        Target::Subclass => next(link(literal, Link::Sub)?),
+        Target::Member => next(link(literal, Link::Mem)?),
+        Target::Object => signature(literal),
+        Target::Argument => argument(signature(literal)?, k),
+        Target::Result => value(signature(literal)?),
     }
 }
 
 // res: - L at I, + L' at J.
-fn resolution(a: &[u8], x: usize, b: &[u8], y: usize) -> Found
-    ensures { result ≡ resolved a.now x b.now y }
+#[tactic(auto, unfolding(crate::specs::Rows::resolved, crate::specs::Rows::behind))]
+fn resolution<'a>(x: &'a [u8], y: &'a [u8]) -> Option<Found<'a>>
+    ensures { found_of result ≡ resolved x.now y.now }
 {
-    let mut f = nothing_found(Kind::Resolution, x);
-    f.left = negative(a, x);
-    f.right = positive(b, y);
-    f.shaped = both(within(a, f.left), within(b, f.right));
-    f
+    Some(Found::Covering {
+        left: negative(x)?,
+        right: positive(y)?,
+    })
 }
 
-// fac: I, J differ, same sign. Clause b is clause a.
-fn factoring(a: &[u8], x: usize, b: &[u8], y: usize) -> Found
-    ensures { result ≡ factored a.now x b.now y }
+// fac: I, J differ, same sign. Both literals are of one clause, which ends with both.
+#[tactic(auto, unfolding(crate::specs::Rows::factored, crate::specs::Rows::behind))]
+fn factoring<'a>(x: &'a [u8], y: &'a [u8]) -> Option<Found<'a>>
+    ensures { found_of result ≡ factored x.now y.now }
 {
-    let mut f = nothing_found(Kind::Factoring, x);
-    f.left = atom(a, x);
-    f.right = atom(b, y);
-    f.shaped = both(x != y, same_sign(a, x, b, y));
-    f
+    if x.len() == y.len() || !same_sign(x, y) {
+        return None;
+    }
+    Some(Found::Covering {
+        left: atom(x)?,
+        right: atom(y)?,
+    })
 }
 
 // par, tra, inc, inh, inp and out: a term of the literal at I, and a link at J, whose other side takes the term's place.
-fn rewriting(r: Row, k: usize, a: &[u8], x: usize, b: &[u8], y: usize) -> Found
-    ensures { result ≡ replaced r k a.now x b.now y }
+#[tactic(auto, unfolding(crate::specs::Rows::replaced, crate::specs::Rows::behind))]
+fn rewriting<'a>(
+    target: Target,
+    kind: Link,
+    forward: bool,
+    k: usize,
+    x: &'a [u8],
+    y: &'a [u8],
+) -> Option<Found<'a>>
+    ensures { found_of result ≡ replaced target kind forward k x.now y.now }
 {
-    let target = r.target;
-    let kind = r.link;
-    let u = link(b, kind, y);
-    let v = next(b, u);
-    let mut f = nothing_found(Kind::Rewriting, x);
-    f.left = target_place(target, k, a, x);
-    f.right = choose(r.forward, u, v);
-    f.other = choose(r.forward, v, u);
-    f.shaped = both(within(a, f.left), within(b, v));
-    f
+    let term = term(target, k, x)?;
+    let first = link(y, kind)?;
+    let second = next(first)?;
+    let (side, other) = if forward {
+        (first, second)
+    } else {
+        (second, first)
+    };
+    Some(Found::Rewriting {
+        literal: x,
+        term,
+        side,
+        other,
+    })
 }
 
 // acy: + sub(P,Q), + sub(Q',P').
-fn acyclicity(a: &[u8], x: usize, b: &[u8], y: usize) -> Found
-    ensures { result ≡ crossed a.now x b.now y }
+#[tactic(auto, unfolding(crate::specs::Rows::crossed, crate::specs::Rows::behind))]
+fn acyclicity<'a>(x: &'a [u8], y: &'a [u8]) -> Option<Found<'a>>
+    ensures { found_of result ≡ crossed x.now y.now }
 {
-    let mut f = nothing_found(Kind::Acyclicity, x);
-    f.left = link(a, Link::Sub, x);
-    f.more = next(a, f.left);
-    f.other = link(b, Link::Sub, y);
-    f.right = next(b, f.other);
-    f.shaped = both(within(a, f.more), within(b, f.right));
-    f
+    let left = link(x, Link::Sub)?;
+    let more = next(left)?;
+    let other = link(y, Link::Sub)?;
+    let right = next(other)?;
+    Some(Found::Crossing {
+        left,
+        more,
+        right,
+        other,
+    })
 }
 
 // sca: two + sv or si atoms: their objects and their results.
-fn scalarity(a: &[u8], x: usize, b: &[u8], y: usize) -> Found
-    ensures { result ≡ called a.now x b.now y }
+#[tactic(auto, unfolding(crate::specs::Rows::called, crate::specs::Rows::behind))]
+fn scalarity<'a>(x: &'a [u8], y: &'a [u8]) -> Option<Found<'a>>
+    ensures { found_of result ≡ called x.now y.now }
 {
-    let mut f = nothing_found(Kind::Scalarity, x);
-    f.left = scalar(a, x);
-    f.right = scalar(b, y);
-    f.more = value(a, f.left);
-    f.other = value(b, f.right);
-    f.arrows = same_arrow(a, x, b, y);
-    f.shaped = both(within(a, f.more), within(b, f.other));
-    f
+    let left = scalar(x)?;
+    let right = scalar(y)?;
+    Some(Found::Calling {
+        same_arrow: same_arrow(x, y),
+        left,
+        value: value(left)?,
+        right,
+        other: value(right)?,
+    })
 }
 
 // eli: - obj(P) at I.
-fn elimination(a: &[u8], x: usize) -> Found
-    ensures { result ≡ denying a.now x }
+#[tactic(auto, unfolding(crate::specs::Rows::denying, crate::specs::Rows::behind))]
+fn elimination<'a>(x: &'a [u8]) -> Option<Found<'a>>
+    ensures { found_of result ≡ denying x.now }
 {
-    let mut f = nothing_found(Kind::Elimination, x);
-    f.shaped = within(a, denied(a, x));
-    f
+    denied(x)?;
+    Some(Found::Denied)
 }
 
-// The second column: what the shape names.
-pub fn find(r: Row, k: usize, a: &[u8], x: usize, b: &[u8], y: usize) -> Found
-    ensures value { result ≡ found_by r.kind r k a.now x b.now y }
-    ensures a_unchanged { (a.exit.now ≡ a.entry.now) × (b.exit.now ≡ b.entry.now) }
+// The second column: what the shape names in the literals at I and J, where there are such; x and y are what stands from there on.
+#[tactic(auto, unfolding(crate::specs::Rows::found_by, crate::specs::Rows::behind))]
+pub fn find<'a>(row: Row, k: usize, x: Option<&'a [u8]>, y: Option<&'a [u8]>) -> Option<Found<'a>>
+    ensures value { found_of result ≡ found_by row k (passed x.entry) (passed y.entry) }
+    ensures x_unchanged { (passed x.exit ≡ passed x.entry) × (passed y.exit ≡ passed y.entry) }
 {
-    let kind = r.kind;
-    match kind {
-        Kind::Reflexivity => nothing_found(Kind::Reflexivity, x),
-        Kind::Resolution => resolution(a, x, b, y),
-        Kind::Factoring => factoring(a, x, b, y),
-        Kind::Rewriting => rewriting(r, k, a, x, b, y),
-        Kind::Acyclicity => acyclicity(a, x, b, y),
-        Kind::Scalarity => scalarity(a, x, b, y),
-        Kind::Elimination => elimination(a, x),
+    match row {
+        Row::Reflexivity => Some(Found::Nothing),
+        Row::Resolution => resolution(x?, y?),
+        Row::Factoring => factoring(x?, y?),
+        Row::Rewriting {
+            target,
+            link,
+            forward,
+        } => rewriting(target, link, forward, k, x?, y?),
+        Row::Acyclicity => acyclicity(x?, y?),
+        Row::Scalarity => scalarity(x?, y?),
+        Row::Elimination => elimination(x?),
     }
 }
 
-// The third column: the agreement, filled by the first list of the line and by the second, of terms that nest at most `depth` deep.
-pub fn agrees(
-    depth: u8,
-    f: Found,
-    a: &[u8],
-    first: &[usize],
-    b: &[u8],
-    second: &[usize],
-    line: &[u8],
-) -> bool
-    ensures value { result ≡ agrees_by depth f.kind f a.now line.now first.now b.now
-        second.now }
-    ensures a_unchanged { (a.exit.now ≡ a.entry.now) × (b.exit.now ≡ b.entry.now) × (line.exit.now ≡ line.entry.now) }
+// The third column: the agreement of what was found in the clauses a and b, filled, of terms that nest at most `depth` deep.
+#[tactic(auto, unfolding(crate::specs::Rows::agrees_by))]
+pub fn agrees<'a>(depth: u8, found: Found<'a>, a: Filled<'a>, b: Filled<'a>) -> bool
+    ensures value { result ≡ agrees_by depth (item_of a.entry) (item_of b.entry) (at_found found.entry) }
+    ensures a_unchanged { (item_of a.exit ≡ item_of a.entry) × (item_of b.exit ≡ item_of b.entry)
+        × (at_found found.exit ≡ at_found found.entry) }
 {
-    let kind = f.kind;
-    match kind {
-        Kind::Reflexivity => true,
-        Kind::Resolution => covers(depth, a, f.left, line, first, b, f.right, second),
-        Kind::Factoring => covers(depth, a, f.left, line, first, b, f.right, second),
-        Kind::Rewriting => agree(depth, a, f.left, line, first, b, f.right, second),
-        Kind::Acyclicity => both(
-            agree(depth, a, f.left, line, first, b, f.right, second),
-            agree(depth, a, f.more, line, first, b, f.other, second),
-        ),
-        Kind::Scalarity => both(
-            f.arrows,
-            calls(depth, a, f.left, line, first, b, f.right, second),
-        ),
-        Kind::Elimination => true,
+    match found {
+        Found::Nothing | Found::Denied => true,
+        Found::Covering { left, right } => covers(depth, a.beside(left), b.beside(right)),
+        Found::Rewriting { term, side, .. } => agree(depth, a.beside(term), b.beside(side)),
+        Found::Crossing {
+            left,
+            more,
+            right,
+            other,
+        } => {
+            agree(depth, a.beside(left), b.beside(right))
+                && agree(depth, a.beside(more), b.beside(other))
+        }
+        Found::Calling {
+            same_arrow,
+            left,
+            right,
+            ..
+        } => same_arrow && calls(depth, a.beside(left), b.beside(right)),
     }
 }

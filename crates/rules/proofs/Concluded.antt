@@ -8,8 +8,9 @@ use native.Mathlib.Omega.{arith}
 use borrow.Author.Tests.{ne_eqb, eq-eqb}
 use lib.Dec.{eqb}
 use lib.ListN.{length, drop}
-use Rattle.logic.specs.declared.Judged.{Judged}
-use Rattle.logic.specs.declared.Judged.TheVariants.{Passed, Disagrees, WrongClaim}
+use Rattle.std.specs.Prelude.{Err}
+use Rattle.logic.specs.declared.Check.{Check}
+use Rattle.logic.specs.StepChecks.{Checked}
 use Rattle.logic.specs.declared.Rule.{Rule}
 use Rattle.logic.specs.Syntax.{Clause}
 use Rattle.logic.specs.Equality.{clause?}
@@ -20,19 +21,19 @@ use Rattle.text.specs.Words.{bytes}
 use Rattle.text.specs.Write.{word, put_literal, put_literals, put_clause}
 use Rattle.text.specs.Form.{formed_number}
 use Rattle.text.specs.Read.{Parsed, strip}
-use Rattle.text.specs.Places.{end_of}
+use Rattle.text.proofs.Places.{end_of}
 use Rattle.reader.specs.LineAt.{from_clause}
 use Rattle.text.proofs.Deep.{formed_symbol, clause_bytes}
 use Rattle.text.proofs.Gives.{Gives, nothing, gives, strip_gives}
 use Rattle.text.proofs.Heads.{strip_same}
-use Rattle.clauses.specs.Shapes.{strip_at}
-use Rattle.filling.specs.Claims.{others_at}
-use Rattle.rules.specs.Judging.{then_claim}
+use Rattle.clauses.proofs.Places.{strip_at}
+use Rattle.filling.proofs.Claims.{others_at}
+use Rattle.rules.proofs.StepPlaces.{then_claim}
 use Rattle.clauses.proofs.Placing.{Stands}
 use Rattle.filling.proofs.Claimed.{strip_chain, literals_open}
-use Rattle.rules.proofs.Answered.{judged_of}
-use Rattle.rule_table.specs.Rows.{row_at}
-use Rattle.rules.specs.Claim.{new_at, dropped_at, claim_at, claim_by}
+use Rattle.rules.proofs.Answered.{passes, judged_of}
+use Rattle.rules.proofs.RowPlaces.{row_at}
+use Rattle.rules.proofs.ClaimPlaces.{new_at, dropped_at, claim_at, claim_by}
 
 -- A clause stands at the end of the line, before its last bracket.
 pub record ClaimAt (line : List ℕ) (pos : ℕ) (claim : Clause) : Type 0 where
@@ -68,10 +69,10 @@ module _ {line : List ℕ} {pos : ℕ} {claim : Clause} (at : ClaimAt line pos c
   unfolding strip_at from_clause
   claim_there h = ends_there (drop pos line) (put_clause c (word ")" [])) (drop pos line) (at.stands.bytes_there ∙ ap (λ d. put_clause d (word ")" [])) (sym h))
 
-  pub claim_exactly : cond (eqb (strip_at (drop pos line) (put_clause c (word ")" [])) 0) (length (drop pos line))) Passed WrongClaim ≡ ite (clause? c claim) Passed WrongClaim
+  pub claim_exactly : cond (eqb (strip_at (drop pos line) (put_clause c (word ")" [])) 0) (length (drop pos line))) passes (Err Check.Claim) ≡ ite (clause? c claim) passes (Err Check.Claim)
   claim_exactly = go (clause? c claim)
     where
-      go : (d : Dec (c ≡ claim)) → cond (eqb (strip_at (drop pos line) (put_clause c (word ")" [])) 0) (length (drop pos line))) Passed WrongClaim ≡ ite d Passed WrongClaim
+      go : (d : Dec (c ≡ claim)) → cond (eqb (strip_at (drop pos line) (put_clause c (word ")" [])) 0) (length (drop pos line))) passes (Err Check.Claim) ≡ ite d passes (Err Check.Claim)
       go (yes e) = rw (eq-eqb _ _ (claim_there e))
       go (no e) = rw (ne_eqb _ _ (λ h. e (claim_only h)))
 
@@ -117,6 +118,6 @@ module _ (depth : ℕ) where
   concluded rule k p n i x line starts q m j y others new a b {pos} {claim} at news firsts seconds g row over =
       rw (row, ← claim_chain rule k p n i x line starts q m j y others (drop pos line) new a b news firsts seconds) (go (holds? g) _ _ (claim_exactly at (new ++ (a ++ b)) over))
     where
-      go : (d : Dec (Holds g)) (v : Judged) (t : Bool) → cond t Passed WrongClaim ≡ v → then_claim (ite d Passed Disagrees) t ≡ ite d v Disagrees
+      go : (d : Dec (Holds g)) (v : Checked) (t : Bool) → cond t passes (Err Check.Claim) ≡ v → then_claim (ite d passes (Err Check.Agreement)) t ≡ ite d v (Err Check.Agreement)
       go (yes h) v t e = e
       go (no h) v t e = refl

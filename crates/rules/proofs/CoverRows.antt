@@ -10,7 +10,8 @@ use lib.ListN.{length}
 use Rattle.logic.specs.declared.Sign.{Sign}
 use Rattle.logic.specs.declared.Sign.TheVariants.{Positive, Negative}
 use Rattle.logic.specs.declared.Rule.TheVariants.{Res, Fac, Eli}
-use Rattle.logic.specs.declared.Judged.TheVariants.{Misshapen}
+use Rattle.std.specs.Prelude.{Err}
+use Rattle.logic.specs.declared.Check.{Check}
 use Rattle.logic.specs.Syntax.{arrow_of, Atom, link, obj, arrows, Literal, lit, Clause}
 use Rattle.logic.specs.Each.{width}
 use Rattle.logic.specs.Fill.{Substitution, fill_atom, fill_literal}
@@ -21,7 +22,7 @@ use Rattle.text.specs.Write.{word, put_literals}
 use Rattle.text.specs.Form.{formed_literal}
 use Rattle.text.specs.Heads.{kind_number, head}
 use Rattle.text.proofs.Heads.{minus_of, minus_other}
-use Rattle.clauses.specs.Shapes.{strip_at, positive_at}
+use Rattle.clauses.proofs.Places.{strip_at, positive_at}
 use Rattle.clauses.proofs.Placing.{strip_stands, strip_past, past_strip, positive_stands, negative_past, head_stands, head_past, or_else_here, or_else_past}
 use Rattle.filling.proofs.Claimed.{strip_chain}
 use Rattle.rules.proofs.Answered.{judged_of, within_here, within_past, right_shape}
@@ -30,11 +31,11 @@ use Rattle.rules.proofs.TermsMeet.{missing, concluding}
 use Rattle.rules.proofs.Targets.{link_small, past_positive}
 use Rattle.rules.proofs.RowsMeet.{both_within, one_past, past_shape}
 use Rattle.rules.proofs.CoversMeet.{AtomAt, arrow_range, covers_meet}
-use Rattle.rule_table.specs.Rows.{answer, row_at, found_by, resolved, agrees_by, factored}
-use Rattle.clauses.specs.Shapes.{negative_at}
-use Rattle.filling.specs.Covers.{covers_at}
-use Rattle.clauses.specs.Shapes.{same_sign_at, atom_at}
-use Rattle.rules.specs.Claim.{new_at, new_by}
+use Rattle.rules.proofs.RowPlaces.{answer, row_at, found_by, resolved, agrees_by, factored}
+use Rattle.clauses.proofs.Places.{negative_at}
+use Rattle.filling.proofs.Covers.{covers_at}
+use Rattle.clauses.proofs.Places.{same_sign_at, atom_at}
+use Rattle.rules.proofs.ClaimPlaces.{new_at, new_by}
 
 module _ (depth : ℕ) where
   module _ (p : List ℕ) {i v : ℕ} (x : Atom) where
@@ -104,12 +105,12 @@ unfolding answer judged_of
 right_signs true s b g r e h = refl
 right_signs false s b g r e h = rw e (right_shape b g r h)
 
-other_signs : (c s b : Bool) → s ≡ false → answer (not c && s) b ≡ Misshapen
+other_signs : (c s b : Bool) → s ≡ false → answer (not c && s) b ≡ Err Check.Shape
 unfolding answer
 other_signs true s b e = refl
 other_signs false s b e = rw e
 
-never : (c : Bool) → Misshapen ≡ judged_of (cond c misshapen misshapen)
+never : (c : Bool) → Err Check.Shape ≡ judged_of (cond c misshapen misshapen)
 unfolding judged_of
 never true = refl
 never false = refl
@@ -135,16 +136,16 @@ module _ (depth : ℕ) where
 
   -- A literal that is missing is misshapen.
   module _ (k : ℕ) (p : List ℕ) (i : ℕ) (line starts q : List ℕ) (j : ℕ) (others : List ℕ) where
-    pub res_past : (i ≡ length p + 1) ⊎ (j ≡ length q + 1) → row_at depth Res k p i line starts q j others ≡ Misshapen
+    pub res_past : (i ≡ length p + 1) ⊎ (j ≡ length q + 1) → row_at depth Res k p i line starts q j others ≡ Err Check.Shape
     unfolding row_at found_by resolved agrees_by
     res_past (inl e) = past_shape p q _ _ _ (inl (ap (negative_at p) e ∙ past_negative p))
     res_past (inr e) = past_shape p q _ _ _ (inr (ap (positive_at q) e ∙ past_positive q))
 
-    pub eli_past : i ≡ length p + 1 → row_at depth Eli k p i line starts q j others ≡ Misshapen
+    pub eli_past : i ≡ length p + 1 → row_at depth Eli k p i line starts q j others ≡ Err Check.Shape
     unfolding row_at found_by agrees_by answer
     eli_past e = rw (within_past p _ (ap (strip_at p (bytes "(- (obj ")) e ∙ past_strip p 40 _))
 
-    pub fac_past : (i ≡ length p + 1) ⊎ (j ≡ length p + 1) → row_at depth Fac k p i line starts p j starts ≡ Misshapen
+    pub fac_past : (i ≡ length p + 1) ⊎ (j ≡ length p + 1) → row_at depth Fac k p i line starts p j starts ≡ Err Check.Shape
     unfolding row_at found_by factored agrees_by
     fac_past (inl e) = other_signs (eqb i j) _ _ (no_sign p i j (inl (ap (positive_at p) e ∙ past_positive p)) (inl (ap (negative_at p) e ∙ past_negative p)))
     fac_past (inr e) = other_signs (eqb i j) _ _ (no_sign p i j (inr (ap (positive_at p) e ∙ past_positive p)) (inr (ap (negative_at p) e ∙ past_negative p)))

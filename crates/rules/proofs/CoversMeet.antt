@@ -26,7 +26,7 @@ use Rattle.text.specs.Heads.{arrow_kind, kind_number, head}
 use Rattle.text.proofs.Heads.{after_head, strip_same}
 use Rattle.text.proofs.Nesting.{skip_term}
 use Rattle.text.proofs.Tests.{T_and, holds}
-use Rattle.clauses.specs.Shapes.{strip_at, skip_at, next_at, result_at}
+use Rattle.clauses.proofs.Places.{strip_at, skip_at, next_at, result_at}
 use Rattle.clauses.proofs.Placing.{Stands, walk_past, strip_stands, strip_past, past_strip, skip_stands, next_term, past_next, head_stands, head_past, result_stands}
 use Rattle.rules.proofs.Targets.{link_arrow}
 use Rattle.filling.proofs.Agreed.{atoms_agree}
@@ -34,9 +34,9 @@ use Rattle.rules.proofs.Answered.{within_here, within_past}
 use Rattle.filling.proofs.NumberedFill.{fill_atom_over, atom_deeper}
 use Rattle.rules.proofs.Meets.{Images}
 use Rattle.rules.proofs.TermsMeet.{call_stands, calls_meet}
-use Rattle.filling.specs.Agree.{agree_at, calls_at}
-use Rattle.clauses.specs.Shapes.{within}
-use Rattle.filling.specs.Covers.{head_at, bare_at, covers_at}
+use Rattle.filling.proofs.Agree.{agree_at, calls_at}
+use Rattle.clauses.proofs.Places.{within}
+use Rattle.filling.proofs.Covers.{head_at, bare_at, covers_at}
 
 module _ (depth : ℕ) where
   -- An atom that stands at a place of p, formed, its variables below w.

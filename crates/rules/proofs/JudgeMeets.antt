@@ -10,8 +10,9 @@ use lib.ListN.{length, drop, get_or}
 use Rattle.logic.specs.declared.Link.TheVariants.{Sub}
 use Rattle.logic.specs.declared.Rule.{Rule}
 use Rattle.logic.specs.declared.Rule.TheVariants.{Refl, Res, Fac, Par, Acy, Tra, Inc, Inh, Inp, Out, Sca, Eli}
-use Rattle.logic.specs.declared.Judged.{Judged}
-use Rattle.logic.specs.declared.Judged.TheVariants.{NoParent, WrongNumber}
+use Rattle.std.specs.Prelude.{Err}
+use Rattle.logic.specs.declared.Check.{Check}
+use Rattle.logic.specs.StepChecks.{Checked}
 use Rattle.logic.specs.Syntax.{Terms, Clause, Step, by, link}
 use Rattle.logic.specs.Terms.{count}
 use Rattle.logic.specs.Each.{width, each_term}
@@ -31,9 +32,11 @@ use Rattle.text.proofs.Deep.{formed_symbol, each_numbered, entries_over, formed_
 use Rattle.text.proofs.Heads.{strip_same}
 use Rattle.reader.proofs.LineParts.{first_place, second_place, claim_place}
 use Rattle.text.proofs.Sound.{line_sound}
+use Rattle.rule_numbers.specs.declared.Numbers.{Numbers}
 use Rattle.rule_numbers.specs.Uses.{parent_numbers, unused_numbers}
-use Rattle.rules.specs.declared.steps.Size.{Size}
-use Rattle.rules.specs.Judging.{lists_at, conclude_at, settled_as, filling_places, step_at, HoldsClause, Judges}
+use Rattle.rules.specs.Judging.{ParentAt, step_at, HoldsClause, Judges}
+use Rattle.rules.proofs.StepSame.{step_same}
+use Rattle.rules.proofs.StepPlaces.{lists_at, conclude_at, settled_as, filling_places, placed_step}
 use Rattle.clauses.proofs.Placing as placing
 use Rattle.filling.proofs.LineLists.{line_entry}
 use Rattle.rules.proofs.Meets.{Images}
@@ -42,7 +45,7 @@ use Rattle.rules.proofs.Concluded.{ClaimAt, concluded}
 use Rattle.rules.proofs.RowsMeet.{refl_meets}
 use Rattle.rules.proofs.StepMeets.{given_over, two_meets}
 use Rattle.rules.proofs.RuleMeets.{bare, no_over, no_others, res_two, acy_two, sca_two, tra_two, inc_two, inh_two, inp_two, out_two, par_two, eli_answers, fac_answers}
-use Rattle.clauses.specs.Shapes.{place_at, list_at}
+use Rattle.clauses.proofs.Places.{place_at, list_at}
 
 module _ (depth : ℕ) where
   -- refl: no parent, and one entry.
@@ -63,7 +66,7 @@ module _ (depth : ℕ) where
   module _ (cs : List Clause) (a b : ℕ) (σ τ : Substitution) (p line starts q others : List ℕ) {pos : ℕ} {claim : Clause} (at : ClaimAt line pos claim)
       (image : T (each_term formed_number formed_symbol (σ 0))) (i j k : ℕ) where
     -- Where B is unused, A stands for it.
-    abbrev answers : Rule → Judged
+    abbrev answers : Rule → Checked
     answers rule =
         let n = cond (uses rule).a (length (get_or cs a [])) 0 in
         cond (uses rule).b (conclude_at depth rule k p n i line starts q (length (get_or cs b [])) j others pos) (conclude_at depth rule k p n i line starts p 0 j starts pos)
@@ -113,31 +116,34 @@ filled_over : (c : Clause) (ts : Terms) → Over formed_number formed_symbol c �
 unfolding filled
 filled_over c ts o n = fill_over formed_number formed_number formed_symbol (entries ts) (λ v h. entries_over ts n v h) c o
 
+abbrev numbers_in : Step → Numbers
+numbers_in s = record { a = s.a; i = s.i; b = s.b; j = s.j; k = s.k }
+
 -- Numbers first, then the rest: where they are right, the rest decides.
-settled_same : (below : Bool) {numbers numbers' : Bool} {answer answer' : Judged} → (T below → numbers ≡ numbers') → (T below → T numbers' → answer ≡ answer') →
-    settled_as below numbers answer ≡ cond below (cond numbers' answer' WrongNumber) NoParent
+settled_same : (below : Bool) {numbers numbers' : Bool} {answer answer' : Checked} → (T below → numbers ≡ numbers') → (T below → T numbers' → answer ≡ answer') →
+    settled_as below numbers answer ≡ cond below (cond numbers' answer' (Err Check.Numbers)) (Err Check.Parents)
 unfolding settled_as
 settled_same false n a = refl
 settled_same true {numbers} {numbers'} {answer} {answer'} n a = rw (n tt) (go numbers' (a tt))
   where
-    go : (b : Bool) → (T b → answer ≡ answer') → cond b answer WrongNumber ≡ cond b answer' WrongNumber
+    go : (b : Bool) → (T b → answer ≡ answer') → cond b answer (Err Check.Numbers) ≡ cond b answer' (Err Check.Numbers)
     go true h = h tt
     go false h = refl
 
 module _ (depth : ℕ) where
   -- A used parent whose number is below the step's own.
-  module _ {p : List ℕ} {z : Size} (cs : List Clause) (n : ℕ) (h : n < length cs → HoldsClause depth p z (get_or cs n [])) where
-    part_of : (used : Bool) → T (below (length cs) used n) → T used → PartOf depth p (get_or cs n [])
+  module _ {p : ParentAt} (cs : List Clause) (n : ℕ) (h : n < length cs → HoldsClause depth p (get_or cs n [])) where
+    part_of : (used : Bool) → T (below (length cs) used n) → T used → PartOf depth p.clause (get_or cs n [])
     unfolding below
     part_of true b u = let H = h (ltb→lt n (length cs) b) in record { rest = H.rest; written = H.written; formed = H.formed }
     part_of false b u = elim u [ ]
 
-    width_of : (used : Bool) → T (below (length cs) used n) → cond used z.width 0 ≡ width (parent_clause cs used n)
+    width_of : (used : Bool) → T (below (length cs) used n) → cond used p.width 0 ≡ width (parent_clause cs used n)
     unfolding below parent_clause width
     width_of false b = refl
     width_of true b = (h (ltb→lt n (length cs) b)).narrow
 
-    literals_of : (used : Bool) → T (below (length cs) used n) → cond used z.literals 0 ≡ cond used (length (get_or cs n [])) 0
+    literals_of : (used : Bool) → T (below (length cs) used n) → cond used p.literals 0 ≡ cond used (length (get_or cs n [])) 0
     unfolding below
     literals_of false b = refl
     literals_of true b = (h (ltb→lt n (length cs) b)).literals
@@ -176,7 +182,7 @@ module _ (depth : ℕ) where
     claim_at_lem : ClaimAt line (place_of line (from_clause s.claim)) s.claim
     claim_at_lem = record { stands = record { within = omega arith; bytes_there = claim_place depth line e }; over = formed_over depth s.claim lists_formed.2 }
 
-    module _ (cs : List Clause) (p q : List ℕ) (z z' : Size) (f : s.a < length cs → HoldsClause depth p z (get_or cs s.a [])) (g : s.b < length cs → HoldsClause depth q z' (get_or cs s.b [])) (b : T (parents_below cs s)) where
+    module _ (cs : List Clause) (p q : ParentAt) (f : s.a < length cs → HoldsClause depth p (get_or cs s.a [])) (g : s.b < length cs → HoldsClause depth q (get_or cs s.b [])) (b : T (parents_below cs s)) where
       below_a : T (below (length cs) (uses s.rule).a s.a)
       unfolding parents_below
       below_a = left (below (length cs) (uses s.rule).a s.a) (below (length cs) (uses s.rule).b s.b) b
@@ -185,26 +191,26 @@ module _ (depth : ℕ) where
       unfolding parents_below
       below_b = right (below (length cs) (uses s.rule).a s.a) (below (length cs) (uses s.rule).b s.b) b
 
-      first_length_lem : (used : Bool) → T (below (length cs) used s.a) → cond used z.width 1 ≡ cond used (width (parent_clause cs used s.a)) 1
+      first_length_lem : (used : Bool) → T (below (length cs) used s.a) → cond used p.width 1 ≡ cond used (width (parent_clause cs used s.a)) 1
       first_length_lem false h = refl
       first_length_lem true h = width_of cs s.a f true h
 
       -- Check 8.
-      numbers_same : unused_numbers s.rule s.a s.i s.b s.j s.k && lists_at (uses s.rule).a (uses s.rule).b (count s.first) (count s.second) z.width z'.width ≡ numbers_right cs s
+      numbers_same : unused_numbers s.rule (numbers_in s) && lists_at (uses s.rule).a (uses s.rule).b (count s.first) (count s.second) p.width q.width ≡ numbers_right cs s
       unfolding unused_numbers lists_at numbers_right unused_zero lists_fit first_length parent_a parent_b
       numbers_same = rw (first_length_lem (uses s.rule).a below_a, width_of cs s.b g (uses s.rule).b below_b)
 
       abbrev first_places : List ℕ
-      first_places = filling_places (cond (uses s.rule).a z.width 1) (list_at line (place_of line (from_first s)))
+      first_places = filling_places (cond (uses s.rule).a p.width 1) (list_at line (place_of line (from_first s)))
 
       abbrev second_places : List ℕ
-      second_places = filling_places z'.width (list_at line (place_of line (from_second s)))
+      second_places = filling_places q.width (list_at line (place_of line (from_second s)))
 
       -- Checks 9 to 11, where the numbers are right.
       rest_same : T (numbers_right cs s) →
           cond (uses s.rule).b
-          (conclude_at depth s.rule s.k p (cond (uses s.rule).a z.literals 0) s.i line first_places q z'.literals s.j second_places (place_of line (from_clause s.claim)))
-          (conclude_at depth s.rule s.k p (cond (uses s.rule).a z.literals 0) s.i line first_places p 0 s.j first_places (place_of line (from_clause s.claim))) ≡
+          (conclude_at depth s.rule s.k p.clause (cond (uses s.rule).a p.literals 0) s.i line first_places q.clause q.literals s.j second_places (place_of line (from_clause s.claim)))
+          (conclude_at depth s.rule s.k p.clause (cond (uses s.rule).a p.literals 0) s.i line first_places p.clause 0 s.j first_places (place_of line (from_clause s.claim))) ≡
           judge_conclusion (conclusion cs s) s.claim
       unfolding numbers_right lists_fit first_length conclusion parent_a parent_b
       rest_same h =
@@ -215,24 +221,32 @@ module _ (depth : ℕ) where
           let d = parent_clause cs (uses s.rule).b s.b in
           let one : count s.first ≡ first_length s.rule c = eqb→eq _ _ (left (eqb (count s.first) (first_length s.rule c)) (eqb (count s.second) (width d)) fit) in
           let two : count s.second ≡ width d = eqb→eq _ _ (right (eqb (count s.first) (first_length s.rule c)) (eqb (count s.second) (width d)) fit) in
-          let wide : 0 < first_length s.rule c → 0 < cond (uses s.rule).a z.width 1 = rw (first_length_lem (uses s.rule).a below_a) (λ n. n) in
-          let wide' = used_wide (uses s.rule).b z'.width (width d) (width_of cs s.b g (uses s.rule).b below_b) in
+          let wide : 0 < first_length s.rule c → 0 < cond (uses s.rule).a p.width 1 = rw (first_length_lem (uses s.rule).a below_a) (λ n. n) in
+          let wide' = used_wide (uses s.rule).b q.width (width d) (width_of cs s.b g (uses s.rule).b below_b) in
           let numbers = list_numbered s.first lists_formed.0 in
           let numbers' = list_numbered s.second lists_formed.1 in
           rw (literals_of cs s.a f (uses s.rule).a below_a) (with_b _ _ _ _ (uses s.rule).b below_b)
-          ∙ conclude_meets depth cs s.a s.b (entries s.first) (entries s.second) p line _ q _ claim_at_lem (entries_over s.first numbers 0 tt) s.i s.j s.k s.rule P Q
-          (images_for line _ (entries s.first) (cond (uses s.rule).a z.width 1) _ wide (subst (Images line _ (entries s.first)) one first_images))
-          (images_for line _ (entries s.second) z'.width _ wide' (subst (Images line _ (entries s.second)) two second_images))
+          ∙ conclude_meets depth cs s.a s.b (entries s.first) (entries s.second) p.clause line _ q.clause _ claim_at_lem (entries_over s.first numbers 0 tt) s.i s.j s.k s.rule P Q
+          (images_for line _ (entries s.first) (cond (uses s.rule).a p.width 1) _ wide (subst (Images line _ (entries s.first)) one first_images))
+          (images_for line _ (entries s.second) q.width _ wide' (subst (Images line _ (entries s.second)) two second_images))
           (filled_over c s.first (part_over depth cs (uses s.rule).a s.a P) numbers) (filled_over d s.second (part_over depth cs (uses s.rule).b s.b Q) numbers')
         where
-          with_b : (x : Judged) (n : ℕ) (first second : List ℕ) (used : Bool) → T (below (length cs) used s.b) →
-              cond used (conclude_at depth s.rule s.k p n s.i line first q z'.literals s.j second (place_of line (from_clause s.claim))) x ≡
-              cond used (conclude_at depth s.rule s.k p n s.i line first q (length (get_or cs s.b [])) s.j second (place_of line (from_clause s.claim))) x
+          with_b : (x : Checked) (n : ℕ) (first second : List ℕ) (used : Bool) → T (below (length cs) used s.b) →
+              cond used (conclude_at depth s.rule s.k p.clause n s.i line first q.clause q.literals s.j second (place_of line (from_clause s.claim))) x ≡
+              cond used (conclude_at depth s.rule s.k p.clause n s.i line first q.clause (length (get_or cs s.b [])) s.j second (place_of line (from_clause s.claim))) x
           with_b x n first second false h = refl
-          with_b x n first second true h = ap (λ m. conclude_at depth s.rule s.k p n s.i line first q m s.j second (place_of line (from_clause s.claim))) (literals_of cs s.b g true h)
+          with_b x n first second true h = ap (λ m. conclude_at depth s.rule s.k p.clause n s.i line first q.clause m s.j second (place_of line (from_clause s.claim))) (literals_of cs s.b g true h)
 
-  -- V22, of the call: the answer is that of the definitions.
-  pub judge_meets : (own : ℕ) (p : List ℕ) (z : Size) (q : List ℕ) (z' : Size) (line : List ℕ) (l : StepAt) → Judges depth own p z q z' line l (step_at depth own p z q z' line l)
-  unfolding Judges step_at step_of judge parent_numbers parents_below
-  judge_meets own p z q z' line l cs s table o f g r e short short' =
-      rw (r, o) (settled_same (parents_below cs s) (numbers_same line s e short short' cs p q z z' f g) (rest_same line s e short short' cs p q z z' f g))
+  -- V22, of the step by places: the answer is that of the definitions.
+  pub placed_meets : (own : ℕ) (p q : ParentAt) (line : List ℕ) (l : StepAt) → Judges depth own p q line l (placed_step depth own p q line l)
+  unfolding Judges placed_step step_of judge parent_numbers parents_below
+  placed_meets own p q line l cs s table o f g r e short short' =
+      rw (r, o) (settled_same (parents_below cs s) (numbers_same line s e short short' cs p q f g) (rest_same line s e short short' cs p q f g))
+
+  -- V22, of the step in bytes: the answer is that of the definitions.
+  pub judge_meets : (own : ℕ) (p q : ParentAt) (line : List ℕ) (l : StepAt) → Judges depth own p q line l (step_at depth own p q line l)
+  judge_meets own p q line l = subst (Judges depth own p q line l) (step_same depth own p q line l) (placed_meets own p q line l)
+
+  -- V22, of an answer that is `step_at`.
+  pub what_judges : (own : ℕ) (p q : ParentAt) (line : List ℕ) (l : StepAt) (r : Checked) → r ≡ step_at depth own p q line l → Judges depth own p q line l r
+  what_judges own p q line l r e = rw e (judge_meets own p q line l)

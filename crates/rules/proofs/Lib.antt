@@ -1,3 +1,6 @@
+pub mod RowPlaces
+pub mod ClaimPlaces
+pub mod StepPlaces
 pub mod Targets
 pub mod Answered
 pub mod Meets
@@ -11,4 +14,10 @@ pub mod StepMeets
 pub mod Rewrites
 pub mod ParMeets
 pub mod RuleMeets
+pub mod Landing
+pub mod ListsSame
+pub mod ClaimsSame
+pub mod AgreesSame
+pub mod RowsSame
+pub mod StepSame
 pub mod JudgeMeets

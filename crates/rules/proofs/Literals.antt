@@ -20,12 +20,12 @@ use Rattle.text.specs.Access.{to_item, skip_item}
 use Rattle.text.proofs.Heads.{strip_same}
 use Rattle.text.proofs.Nesting.{put_each, from_item, clause_item, skip_literal, how_many, how_many_lem}
 use Rattle.text.proofs.Positions.{item_tail}
-use Rattle.clauses.specs.Shapes.{strip_at}
-use Rattle.filling.specs.Claims.{others_at}
+use Rattle.clauses.proofs.Places.{strip_at}
+use Rattle.filling.proofs.Claims.{others_at}
 use Rattle.clauses.proofs.Placing.{Stands, walk_stands, walk_past, strip_stands}
 use Rattle.filling.proofs.Claimed.{without_from, others_claimed}
 use Rattle.rules.proofs.Meets.{Images, LiteralAt}
-use Rattle.clauses.specs.Shapes.{place_at}
+use Rattle.clauses.proofs.Places.{place_at}
 
 module _ (depth : ℕ) where
   -- A part of the text that begins with a clause, formed.

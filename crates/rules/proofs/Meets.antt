@@ -11,12 +11,12 @@ use Rattle.logic.specs.Rules.{Agreement}
 use Rattle.logic.specs.Judge.{Conclusion, concludes}
 use Rattle.text.specs.Write.{put_literal, put_literals}
 use Rattle.text.specs.Form.{numbered, formed_literal}
-use Rattle.clauses.specs.Shapes.{strip_at}
+use Rattle.clauses.proofs.Places.{strip_at}
 use Rattle.clauses.proofs.Placing.{Stands}
 use Rattle.filling.proofs.Grounds.{Entries}
 use Rattle.rules.proofs.Answered.{judged_of}
-use Rattle.rule_table.specs.Rows.{row_at}
-use Rattle.rules.specs.Claim.{new_at}
+use Rattle.rules.proofs.RowPlaces.{row_at}
+use Rattle.rules.proofs.ClaimPlaces.{new_at}
 
 -- A list of the line gives the images of the variables below w, and their numbers are numbers N.
 pub record Images (line starts : List ℕ) (σ : Substitution) (w : ℕ) : Type 0 where

@@ -17,13 +17,14 @@ use Rattle.logic.specs.Rules.{equal, one}
 use Rattle.logic.specs.Judge.{concludes, on_found, conclude_par}
 use Rattle.text.specs.Words.{bytes}
 use Rattle.text.specs.Form.{formed_literal}
-use Rattle.text.specs.Places.{end_of}
+use Rattle.text.proofs.Places.{end_of}
 use Rattle.text.specs.Access.{begins_term, seek, to_occurrence}
 use Rattle.text.proofs.Gives.{Gives, nothing, gives, weaken}
 use Rattle.text.proofs.Positions.{Tail, End, end_refl, end_cons, strip_tail, and_tail}
 use Rattle.text.proofs.Tests.{on_test}
-use Rattle.filling.specs.Filled.{replacing, item_depth, hole_depth}
-use Rattle.clauses.specs.Shapes.{next_at, first_at}
+use Rattle.filling.specs.Filled.{item_depth, hole_depth}
+use Rattle.filling.proofs.Places.{replacing}
+use Rattle.clauses.proofs.Places.{next_at, first_at}
 use Rattle.logic.specs.Occurrence.{find_literal}
 use Rattle.filling.proofs.LineLists.{stack_sum}
 use Rattle.filling.proofs.Occurring.{Occurs, nowhere, somewhere, occurs}
@@ -32,8 +33,8 @@ use Rattle.rules.proofs.TermsMeet.{TermAt}
 use Rattle.rules.proofs.RowsMeet.{LinkView, no_link, a_link, on_link_of, link_view}
 use Rattle.rules.proofs.Rewrites.{rewrite_at, rewrite_new_at, Rewritten, not_rewritten, filler_entry, side_new, filler_hole, rewritten}
 use Rattle.rules.proofs.Meets.{Images, LiteralAt, Meets}
-use Rattle.rule_table.specs.Rows.{row_at, found_by, replaced, agrees_by, target_place}
-use Rattle.rules.specs.Claim.{new_at, new_by}
+use Rattle.rules.proofs.RowPlaces.{row_at, found_by, replaced, agrees_by, target_place}
+use Rattle.rules.proofs.ClaimPlaces.{new_at, new_by}
 
 -- The way to an occurrence ends within the bytes.
 seek_tail : (k n : ℕ) → Tail (seek k n)
@@ -48,7 +49,7 @@ seek_tail k n = record { tail = λ bs. go bs k n }
         (λ _. on_test (Gives _) (begins_term (b ∷ bs)) (λ _. on_test (Gives _) (eqb k 0) (λ _. gives (end_refl (b ∷ bs))) (λ _. on (k - 1) (n + 1))) (λ _. on k (n + 1)))
         (λ _. on_test (Gives _) (eqb b 41) (λ _. on_test (Gives _) (eqb n 0) (λ _. nothing) (λ _. on k (n - 1))) (λ _. on k n))
 
-occurrence_tail : (k : ℕ) → Tail (to_occurrence k)
+pub occurrence_tail : (k : ℕ) → Tail (to_occurrence k)
 unfolding to_occurrence
 occurrence_tail k = and_tail (strip_tail (bytes "(")) (seek_tail k 0)
 

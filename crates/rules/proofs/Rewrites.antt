@@ -9,12 +9,13 @@ use lib.Dec.{T}
 use lib.ListN.{length, drop, length-drop}
 use Rattle.logic.specs.declared.Link.{Link}
 use Rattle.logic.specs.declared.Link.TheVariants.{Sub}
-use Rattle.logic.specs.declared.Judged.{Judged}
 use Rattle.text.specs.Heads.{head, link_kind}
-use Rattle.rule_table.specs.declared.Target.{Target as TargetKind}
-use Rattle.rule_table.specs.declared.Kind.TheVariants.{Rewriting}
+use Rattle.rules.proofs.RowPlaces.{Target as TargetKind}
+use Rattle.rules.proofs.RowPlaces.{Rewriting}
 use Rattle.logic.specs.declared.Rule.{Rule}
-use Rattle.logic.specs.declared.Judged.TheVariants.{Misshapen}
+use Rattle.std.specs.Prelude.{Err}
+use Rattle.logic.specs.declared.Check.{Check}
+use Rattle.logic.specs.StepChecks.{Checked}
 use Rattle.logic.specs.Syntax.{Term, Literal, Clause}
 use Rattle.logic.specs.Fill.{Substitution, fill, fill_literal}
 use Rattle.logic.specs.Rules.{Agreement, equal, Holds, one}
@@ -23,9 +24,10 @@ use Rattle.logic.proofs.Rewriting.{Aim, aim, agreeing, replacing as other-side, 
 use Rattle.text.specs.Words.{bytes}
 use Rattle.text.specs.Write.{put_term, put_literal, put_literals}
 use Rattle.text.specs.Read.{got}
-use Rattle.filling.specs.Filled.{Filler, fill_item, replacing, matches, ends_of, hole_depth}
-use Rattle.clauses.specs.Shapes.{strip_at, next_at, first_at}
-use Rattle.filling.specs.Claims.{rewritten_at}
+use Rattle.filling.specs.Filled.{Filler, fill_item, matches, hole_depth}
+use Rattle.filling.proofs.Places.{replacing, ends_of}
+use Rattle.clauses.proofs.Places.{strip_at, next_at, first_at}
+use Rattle.filling.proofs.Claims.{rewritten_at}
 use Rattle.clauses.proofs.Placing.{Stands}
 use Rattle.filling.proofs.Claimed.{match_place, spaced_literal}
 use Rattle.rules.proofs.Answered.{judged_of, right_shape}
@@ -34,14 +36,14 @@ use Rattle.rules.proofs.Targets.{Placed, missed, found, Aimed, past_second, past
 use Rattle.rules.proofs.Meets.{Images, LiteralAt, Meets}
 use Rattle.rules.proofs.TermsMeet.{TermAt, term_meets}
 use Rattle.rules.proofs.RowsMeet.{LinkView, no_link, a_link, on_link_of, link_view, both_within, past_shape}
-use Rattle.rule_table.specs.Rows.{answer, row_of, target_place, target_at, row_at, found_by, replaced, agrees_by}
-use Rattle.filling.specs.Agree.{agree_at}
-use Rattle.clauses.specs.Shapes.{within}
-use Rattle.rules.specs.Claim.{new_at, new_by}
+use Rattle.rules.proofs.RowPlaces.{answer, row_of, target_place, target_at, row_at, found_by, replaced, agrees_by}
+use Rattle.filling.proofs.Agree.{agree_at}
+use Rattle.clauses.proofs.Places.{within}
+use Rattle.rules.proofs.ClaimPlaces.{new_at, new_by}
 
 module _ (depth : ℕ) where
   -- A rewriting rule: the term at x agrees with one side of the positive link whose first term is at y, and the other side takes its place.
-  unfoldable pub rewrite_at : List ℕ → ℕ → List ℕ → List ℕ → List ℕ → ℕ → Bool → List ℕ → Judged
+  unfoldable pub rewrite_at : List ℕ → ℕ → List ℕ → List ℕ → List ℕ → ℕ → Bool → List ℕ → Checked
   rewrite_at p x line starts q y forward others =
       answer (within p x && within q (next_at q y)) (agree_at depth p x line starts q (cond forward y (next_at q y)) others)
 
@@ -56,7 +58,7 @@ module _ (depth : ℕ) where
 
   module _ (p : List ℕ) (i x : ℕ) (line starts q : List ℕ) (y : ℕ) (forward : Bool) (others : List ℕ) where
     -- A place that is missing.
-    pub misses : (x ≡ length p + 1) ⊎ (next_at q y ≡ length q + 1) → rewrite_at p x line starts q y forward others ≡ Misshapen
+    pub misses : (x ≡ length p + 1) ⊎ (next_at q y ≡ length q + 1) → rewrite_at p x line starts q y forward others ≡ Err Check.Shape
     unfolding rewrite_at
     misses e = past_shape p q x (next_at q y) _ e
 
@@ -150,7 +152,7 @@ module _ (depth : ℕ) where
   -- A literal that is missing is misshapen, in the row of any rule that rewrites.
   module _ (k : ℕ) (p : List ℕ) (i : ℕ) (line starts q : List ℕ) (j : ℕ) (others : List ℕ) where
     pub rewrites_past : (rule : Rule) (target : TargetKind) (kind : Link) (forward : Bool) → row_of rule ≡ record { kind = Rewriting; target = target; link = kind; forward = forward } →
-        (i ≡ length p + 1) ⊎ (j ≡ length q + 1) → row_at depth rule k p i line starts q j others ≡ Misshapen
+        (i ≡ length p + 1) ⊎ (j ≡ length q + 1) → row_at depth rule k p i line starts q j others ≡ Err Check.Shape
     unfolding row_at found_by replaced agrees_by rewrite_at
     rewrites_past rule target kind forward r missing =
         rw r (misses p i (target_place target k p i) line starts q (first_at q (head (link_kind kind)) j) forward others

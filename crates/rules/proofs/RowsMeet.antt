@@ -13,7 +13,8 @@ use Rattle.logic.specs.declared.Link.TheVariants.{Eq, Sub}
 use Rattle.logic.specs.declared.Arrow.{Arrow}
 use Rattle.logic.specs.declared.Arrow.TheVariants.{Sv, Si, Mv, Mi, St, Mt}
 use Rattle.logic.specs.declared.Rule.TheVariants.{Refl, Acy, Sca}
-use Rattle.logic.specs.declared.Judged.TheVariants.{Misshapen}
+use Rattle.std.specs.Prelude.{Err}
+use Rattle.logic.specs.declared.Check.{Check}
 use Rattle.logic.specs.Syntax.{Term, var, Terms, cons, Result, value, none, part, arrow_of, Atom, link, obj, arrows, method, Literal, lit}
 use Rattle.logic.specs.Terms.{terms_of}
 use Rattle.logic.specs.Equality.{link?}
@@ -27,18 +28,18 @@ use Rattle.text.specs.Form.{depth_of, numbered, formed_term, formed_atom, formed
 use Rattle.text.specs.Heads.{link_kind, arrow_kind, kind_number, head}
 use Rattle.text.proofs.Heads.{after_head}
 use Rattle.text.proofs.Tests.{T_and}
-use Rattle.clauses.specs.Shapes.{strip_at, next_at, positive_at, first_at, value_at, object_at}
+use Rattle.clauses.proofs.Places.{strip_at, next_at, positive_at, first_at, value_at, object_at}
 use Rattle.clauses.proofs.Placing.{Stands, positive_stands, negative_past, head_stands, head_past, next_term, inner, either_stands, either_past, past_inner, value_of, value_none, past_value}
 use Rattle.rules.proofs.Targets.{kind_link, link_object, link_arrow, link_past, past_link, past_positive, past_second}
 use Rattle.rules.proofs.Answered.{judged_of, within_here, within_past, right_shape}
 use Rattle.rules.proofs.Meets.{Images, LiteralAt, Meets}
 use Rattle.rules.proofs.TermsMeet.{TermAt, CallAt, call_stands, result_at_lem, term_meets, calls_meet, linked_claimed, missing, concluding, term_deep}
 use Rattle.filling.specs.Filled.{item_depth}
-use Rattle.clauses.specs.Shapes.{within}
-use Rattle.rule_table.specs.Rows.{answer, row_at, found_by, crossed, agrees_by, called}
-use Rattle.clauses.specs.Shapes.{equal_tests, same_arrow_at}
-use Rattle.rules.specs.Claim.{new_at, new_by}
-use Rattle.filling.specs.Claims.{reflexive_at, equated_at}
+use Rattle.clauses.proofs.Places.{within}
+use Rattle.rules.proofs.RowPlaces.{answer, row_at, found_by, crossed, agrees_by, called}
+use Rattle.clauses.proofs.Places.{equal_tests, same_arrow_at}
+use Rattle.rules.proofs.ClaimPlaces.{new_at, new_by}
+use Rattle.filling.proofs.Claims.{reflexive_at, equated_at}
 
 module _ (depth : ℕ) where
   -- refl: variable 0 by itself.
@@ -94,7 +95,7 @@ one_past p q x y (inr e) = rw (within_past q y e) (none (within p x))
     none true = refl
     none false = refl
 
-pub past_shape : (p q : List ℕ) (x y : ℕ) (b : Bool) → (x ≡ length p + 1) ⊎ (y ≡ length q + 1) → answer (within p x && within q y) b ≡ Misshapen
+pub past_shape : (p q : List ℕ) (x y : ℕ) (b : Bool) → (x ≡ length p + 1) ⊎ (y ≡ length q + 1) → answer (within p x && within q y) b ≡ Err Check.Shape
 unfolding answer
 past_shape p q x y b e = rw (one_past p q x y e)
 
@@ -213,12 +214,12 @@ module _ (depth : ℕ) where
 
   -- A literal that is missing is misshapen.
   module _ (k : ℕ) (p : List ℕ) (i : ℕ) (line starts q : List ℕ) (j : ℕ) (others : List ℕ) where
-    pub acy_past : (i ≡ length p + 1) ⊎ (j ≡ length q + 1) → row_at depth Acy k p i line starts q j others ≡ Misshapen
+    pub acy_past : (i ≡ length p + 1) ⊎ (j ≡ length q + 1) → row_at depth Acy k p i line starts q j others ≡ Err Check.Shape
     unfolding row_at found_by crossed agrees_by
     acy_past (inl e) = past_shape p q _ _ _ (inl (ap (λ at. next_at p (first_at p (bytes "(sub ") at)) e ∙ past_second p Sub))
     acy_past (inr e) = past_shape p q _ _ _ (inr (ap (λ at. next_at q (first_at q (bytes "(sub ") at)) e ∙ past_second q Sub))
 
-    pub sca_past : (i ≡ length p + 1) ⊎ (j ≡ length q + 1) → row_at depth Sca k p i line starts q j others ≡ Misshapen
+    pub sca_past : (i ≡ length p + 1) ⊎ (j ≡ length q + 1) → row_at depth Sca k p i line starts q j others ≡ Err Check.Shape
     unfolding row_at found_by called agrees_by
     sca_past (inl e) = past_shape p q _ _ _ (inl (past_scalar_value p i e))
     sca_past (inr e) = past_shape p q _ _ _ (inr (past_scalar_value q j e))

@@ -10,7 +10,8 @@ use Rattle.logic.specs.declared.Sign.TheVariants.{Positive, Negative}
 use Rattle.logic.specs.declared.Link.TheVariants.{Eq, Sub}
 use Rattle.logic.specs.declared.Rule.{Rule}
 use Rattle.logic.specs.declared.Rule.TheVariants.{Res, Fac, Par, Acy, Tra, Inc, Inh, Inp, Out, Sca, Eli}
-use Rattle.logic.specs.declared.Judged.TheVariants.{Misshapen}
+use Rattle.std.specs.Prelude.{Err}
+use Rattle.logic.specs.declared.Check.{Check}
 use Rattle.logic.specs.Syntax.{Atom, link, obj, arrows, Literal, lit, Clause}
 use Rattle.logic.specs.Each.{width, each_term}
 use Rattle.logic.specs.Fill.{Substitution, fill_atom, fill_literal, fill_clause}
@@ -20,27 +21,27 @@ use Rattle.logic.proofs.Over.{Over}
 use Rattle.text.specs.Write.{put_literals}
 use Rattle.text.specs.Form.{formed_number}
 use Rattle.text.proofs.Deep.{formed_symbol}
-use Rattle.clauses.specs.Shapes.{positive_at}
-use Rattle.filling.specs.Claims.{others_from, others_at}
-use Rattle.rules.specs.Judging.{then_claim}
+use Rattle.clauses.proofs.Places.{positive_at}
+use Rattle.filling.proofs.Claims.{others_from, others_at}
+use Rattle.rules.proofs.StepPlaces.{then_claim}
 use Rattle.clauses.proofs.Placing.{positive_stands, negative_past}
 use Rattle.rules.proofs.Answered.{judged_of, within_here, within_past}
 use Rattle.rules.proofs.Meets.{Images, LiteralAt, Meets}
 use Rattle.rules.proofs.RowsMeet.{acy_meets, sca_meets, acy_past, sca_past}
 use Rattle.rules.proofs.CoverRows.{res_meets, eli_meets, fac_judged, res_past, eli_past, fac_past}
 use Rattle.logic.proofs.Rewriting.{aim, rewrite, tra_rewrites, inc_rewrites, inh_rewrites, inp_rewrites, out_rewrites}
-use Rattle.rule_table.specs.declared.Kind.TheVariants.{Rewriting}
-use Rattle.rule_table.specs.declared.Target.{Target as TargetKind}
-use Rattle.rule_table.specs.declared.Target.TheVariants.{Occurrence, Subclass, Member, Object, Argument, Result as Output}
+use Rattle.rules.proofs.RowPlaces.{Rewriting}
+use Rattle.rules.proofs.RowPlaces.{Target as TargetKind}
+use Rattle.rules.proofs.RowPlaces.{Occurrence, Subclass, Member, Object, Argument, Result as Output}
 use Rattle.rules.proofs.Targets.{Aimed, tra_placed, inc_placed, inh_placed, inp_placed, out_placed}
 use Rattle.rules.proofs.Rewrites.{sub_meets, rewrites_past}
 use Rattle.rules.proofs.ParMeets.{par_meets}
 use Rattle.rules.proofs.Literals.{PartOf, without, at_here, at_none, at_filled, at_none_filled, place_here, place_past, part_others, same_place}
 use Rattle.rules.proofs.Concluded.{ClaimAt, Expects, concluded}
 use Rattle.rules.proofs.StepMeets.{Taken, taken, absent, take_at, TwoParents, given_over, stops}
-use Rattle.rule_table.specs.Rows.{row_of, row_at, found_by, factored}
-use Rattle.rules.specs.Claim.{new_at, new_by, dropped_at, claim_at}
-use Rattle.clauses.specs.Shapes.{place_at}
+use Rattle.rules.proofs.RowPlaces.{row_of, row_at, found_by, factored}
+use Rattle.rules.proofs.ClaimPlaces.{new_at, new_by, dropped_at, claim_at}
+use Rattle.clauses.proofs.Places.{place_at}
 
 -- What the rules with two parents take of the literals.
 module _ (A B : Parent) (i j k : ℕ) where
@@ -76,7 +77,7 @@ module _ (depth : ℕ) where
   module _ (A B : Parent) {p line starts q others : List ℕ} (G : Images line starts A.image (width A.clause)) (H : Images line others B.image (width B.clause)) (i j k : ℕ) where
     table_two : (rule : Rule) → (uses rule).b ≡ true → conclude A B i j k rule ≡ conclude_two A B i j (table_row k rule) →
         ((x y : ℕ) (l m : Literal) → LiteralAt depth p x (width A.clause) l → LiteralAt depth q y (width B.clause) m → Meets depth rule k p x line starts q y others (table_row k rule (fill_literal A.image l) (fill_literal B.image m))) →
-        ((x y : ℕ) → (x ≡ length p + 1) ⊎ (y ≡ length q + 1) → row_at depth rule k p x line starts q y others ≡ Misshapen) →
+        ((x y : ℕ) → (x ≡ length p + 1) ⊎ (y ≡ length q + 1) → row_at depth rule k p x line starts q y others ≡ Err Check.Shape) →
         TwoParents depth rule k A B i j p line starts q others
     table_two rule b e meets past = record {
       with_b = b;
@@ -183,7 +184,7 @@ module _ (depth : ℕ) where
         then_claim (row_at depth rule k p (place_at p i) line starts p y starts) (eqb (claim_at depth rule k p (length A.clause) i (place_at p i) line starts p 0 j y starts (drop pos line)) (length (drop pos line))) ≡
         judge_conclusion (conclude A (bare τ) i j k rule) claim
 
-    stopped : (rule : Rule) (y : ℕ) → row_at depth rule k p (place_at p i) line starts p y starts ≡ Misshapen → conclude A (bare τ) i j k rule ≡ misshapen → Answers rule y
+    stopped : (rule : Rule) (y : ℕ) → row_at depth rule k p (place_at p i) line starts p y starts ≡ Err Check.Shape → conclude A (bare τ) i j k rule ≡ misshapen → Answers rule y
     stopped rule y e f = stops claim _ _ _ e f
 
     -- eli: the literal at I is - obj(P).

@@ -7,8 +7,9 @@ use mathlib.Core.Path.{◌≡◌, refl, sym, ap, ◌∙◌}
 use lib.Dec.{T, eqb}
 use lib.ListN.{length, drop}
 use Rattle.logic.specs.declared.Rule.{Rule}
-use Rattle.logic.specs.declared.Judged.{Judged}
-use Rattle.logic.specs.declared.Judged.TheVariants.{Misshapen}
+use Rattle.std.specs.Prelude.{Err}
+use Rattle.logic.specs.declared.Check.{Check}
+use Rattle.logic.specs.StepChecks.{Checked}
 use Rattle.logic.specs.Syntax.{Literal, Clause}
 use Rattle.logic.specs.Each.{width, each_term}
 use Rattle.logic.specs.Fill.{fill_clause}
@@ -18,14 +19,14 @@ use Rattle.logic.proofs.Over.{Over, infers_over}
 use Rattle.logic.proofs.Table.{concludes→infers}
 use Rattle.text.specs.Form.{formed_number}
 use Rattle.text.proofs.Deep.{formed_symbol}
-use Rattle.rules.specs.Judging.{then_claim, conclude_at}
+use Rattle.rules.proofs.StepPlaces.{then_claim, conclude_at}
 use Rattle.rules.proofs.Answered.{judged_of}
 use Rattle.rules.proofs.Meets.{Images, LiteralAt, Meets}
 use Rattle.rules.proofs.Literals.{PartOf, without, place_here, place_past, part_others}
 use Rattle.rules.proofs.Concluded.{ClaimAt, concluded}
-use Rattle.rule_table.specs.Rows.{row_at}
-use Rattle.rules.specs.Claim.{dropped_at, claim_at}
-use Rattle.clauses.specs.Shapes.{place_at}
+use Rattle.rules.proofs.RowPlaces.{row_at}
+use Rattle.rules.proofs.ClaimPlaces.{dropped_at, claim_at}
+use Rattle.clauses.proofs.Places.{place_at}
 
 -- The literal at a position, or none.
 pub data Taken (n : ℕ) (c : Clause) : Type 0 where
@@ -48,7 +49,7 @@ module _ (depth : ℕ) where
         conclude A B i j k rule ≡ before (row l m) (fill_clause A.image (without i A.clause) ++ fill_clause B.image (without j B.clause))
     pub lacks : (drop i A.clause ≡ []) ⊎ (drop j B.clause ≡ []) → conclude A B i j k rule ≡ misshapen
     pub meets : (x y : ℕ) (l m : Literal) → LiteralAt depth p x (width A.clause) l → LiteralAt depth q y (width B.clause) m → Meets depth rule k p x line starts q y others (row l m)
-    pub past : (x y : ℕ) → (x ≡ length p + 1) ⊎ (y ≡ length q + 1) → row_at depth rule k p x line starts q y others ≡ Misshapen
+    pub past : (x y : ℕ) → (x ≡ length p + 1) ⊎ (y ≡ length q + 1) → row_at depth rule k p x line starts q y others ≡ Err Check.Shape
 
 -- The clause that a conclusion has is over the numbers of the text form.
 pub given_over : (A B : Parent) → Over formed_number formed_symbol (filled A) → Over formed_number formed_symbol (filled B) → T (each_term formed_number formed_symbol (A.image 0)) → (i j k : ℕ) (rule : Rule) {g : Agreement} {c : Clause} →
@@ -56,7 +57,7 @@ pub given_over : (A B : Parent) → Over formed_number formed_symbol (filled A) 
 given_over A B over over' image i j k rule e = infers_over formed_number formed_symbol A B (concludes→infers A B i j k rule e) over over' image
 
 -- A shape that is another: check 9 answers.
-pub stops : (claim : Clause) (r : Judged) (c : Conclusion) (b : Bool) → r ≡ Misshapen → c ≡ misshapen → then_claim r b ≡ judge_conclusion c claim
+pub stops : (claim : Clause) (r : Checked) (c : Conclusion) (b : Bool) → r ≡ Err Check.Shape → c ≡ misshapen → then_claim r b ≡ judge_conclusion c claim
 unfolding then_claim judge_conclusion
 stops claim r c b e f = rw (e, f)
 

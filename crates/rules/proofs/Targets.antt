@@ -26,7 +26,7 @@ use Rattle.text.specs.Words.{bytes}
 use Rattle.text.specs.Write.{word, put_term, put_terms, put_arguments, put_result, put_part, put_atom, put_literal}
 use Rattle.text.specs.Form.{depth_ofs, numbereds, formed_term, formed_terms, formed_result, formed_part, formed_atom, formed_literal}
 use Rattle.text.specs.Read.{Parsed, bad, got, strip}
-use Rattle.text.specs.Places.{end_of}
+use Rattle.text.proofs.Places.{end_of}
 use Rattle.text.specs.Access.{opening, to_argument, to_occurrence}
 use Rattle.text.proofs.Nesting.{from_item, listed, terms_each, argument_item}
 use Rattle.text.proofs.Trees.{join_width}
@@ -35,14 +35,14 @@ use Rattle.text.proofs.Gives.{Gives, nothing, gives}
 use Rattle.text.proofs.Positions.{Tail, End, end_refl, strip_tail, skip_tail, item_tail, and_tail}
 use Rattle.text.specs.Heads.{link_kind, arrow_kind, kind_number, head}
 use Rattle.text.proofs.Heads.{after_head}
-use Rattle.clauses.specs.Shapes.{strip_at, next_at, positive_at, first_at, value_at, object_at, argument_at}
+use Rattle.clauses.proofs.Places.{strip_at, next_at, positive_at, first_at, value_at, object_at, argument_at}
 use Rattle.filling.specs.Filled.{Filler, fill_item, item_depth, hole_depth}
 use Rattle.filling.proofs.LineLists.{stack_sum}
 use Rattle.filling.proofs.Placed.{Argument as Chosen, first, next, replaced, hole_second, hole_object, hole_argument, hole_result}
 use Rattle.clauses.proofs.Placing.{Stands, walk_stands, walk_past, none_past, inner, past_inner, past_value, result_stands, either_past, either_stands, value_of, value_none, next_term, past_next, past_strip, positive_stands, negative_past, head_stands, head_past}
-use Rattle.rule_table.specs.declared.Target.{Target as TargetKind}
-use Rattle.rule_table.specs.declared.Target.TheVariants.{Nothing, Occurrence, Subclass, Member, Object as Owner, Argument as Input, Result as Output}
-use Rattle.rule_table.specs.Rows.{target_at, target_place}
+use Rattle.rules.proofs.RowPlaces.{Target as TargetKind}
+use Rattle.rules.proofs.RowPlaces.{Nothing, Occurrence, Subclass, Member, Object as Owner, Argument as Input, Result as Output}
+use Rattle.rules.proofs.RowPlaces.{target_at, target_place}
 
 module _ (depth : ℕ) where
   -- A target of the literal l, which `rest` follows: it is formed, its variables are below w, and filling with the hole at it, which `left` follows, puts
@@ -92,7 +92,7 @@ opening_tail = record { tail = go }
     go [] = nothing
     go (b ∷ bs) = on_test (Gives _) (eqb b 40) (λ _. gives (end_refl (b ∷ bs))) (λ _. nothing)
 
-argument_tail : (k : ℕ) → Tail (to_argument k)
+pub argument_tail : (k : ℕ) → Tail (to_argument k)
 unfolding to_argument
 argument_tail zero = and_tail (strip_tail (40 ∷ [])) opening_tail
 argument_tail (suc k) = and_tail (and_tail (strip_tail (40 ∷ [])) skip_tail) (item_tail k)

@@ -1,49 +1,54 @@
 -- Nothing here is to be believed: `judge_meets` says what it gives on written clauses. Terms nest at most `depth` deep.
--- Check 11 (V21) in bytes: the new literals of the rule table (R8 to R19), and the claim as a whole. `rest` is the rest of the line from
--- the claim on; each answers the place in it past what it expects.
-use Rattle.std.specs.Prelude.{ℕ, Bool, cond, List}
-use Rattle.logic.specs.declared.Rule.{Rule}
-use Rattle.logic.specs.Rules.{uses}
-use Rattle.clauses.specs.Shapes.{literals_at, positive_at}
-use Rattle.clauses.specs.Shapes.{within}
-use Rattle.filling.specs.Claims.{rewritten_at, reflexive_at, equated_at, others_at, claim_end}
-use Rattle.rule_table.specs.declared.Kind.{Kind}
-use Rattle.rule_table.specs.declared.Kind.TheVariants.{Reflexivity, Resolution, Factoring, Rewriting, Acyclicity, Scalarity, Elimination}
-use Rattle.rule_table.specs.declared.Found.{Found}
+-- Check 11 (V21) in bytes: the new literals of the rule table (R8 to R19), and the claim as a whole.
+use Rattle.std.specs.Prelude.{ℕ, Bool, false, List, length}
+use Rattle.text.specs.Read.{Parsed, bad, got, Reader, ◌>>◌}
+use Rattle.clauses.specs.Shapes.{literals}
+use Rattle.filling.specs.Items.{Item, item_of, beside}
+use Rattle.expected.specs.Claims.{reflexive, equated, rewritten, others, claim_ends}
+use Rattle.rule_table.specs.Rows.{FoundAt, nothing, covering, rewriting, crossing, calling, denied_term}
+use Rattle.rules.specs.declared.claims.Premise.{Premise}
 use Rattle.rules.specs.declared.claims.Kept.{Kept}
-use Rattle.rule_table.specs.Rows.{found_at}
 
--- R8 to R19, "new literal, filled": the new literal, if there is one, after a space.
-unfoldable pub new_by : ℕ → Kind → Found → List ℕ → List ℕ → List ℕ → List ℕ → List ℕ → List ℕ → ℕ → ℕ
-new_by depth Reflexivity f p line starts q others rest pos = reflexive_at depth line starts rest pos
-new_by depth Resolution f p line starts q others rest pos = pos
-new_by depth Factoring f p line starts q others rest pos = pos
-new_by depth Rewriting f p line starts q others rest pos =
-    rewritten_at depth p f.literal f.left line starts q f.other others rest pos
-new_by depth Acyclicity f p line starts q others rest pos = equated_at depth p f.left line starts p f.more starts rest pos
-new_by depth Scalarity f p line starts q others rest pos = equated_at depth p f.more line starts q f.other others rest pos
-new_by depth Elimination f p line starts q others rest pos = pos
+-- R8 to R19, "new literal, filled": the new literal, if there is one, after a space, of what was found in the clauses x and y.
+unfoldable pub new_by : ℕ → Item → Item → FoundAt → Reader (Unit {0})
+new_by depth x y nothing = reflexive depth x.entries
+new_by depth x y (covering l r) = λ rest. got tt rest
+new_by depth x y (rewriting l t s o) = rewritten depth (beside x l) (length t) (beside y o)
+new_by depth x y (crossing p q p' q') = equated depth (beside x p) (beside x q)
+new_by depth x y (calling same o r o' r') = equated depth (beside x r) (beside y r')
+new_by depth x y denied_term = λ rest. got tt rest
 
-unfoldable pub new_at : ℕ → Rule → ℕ → List ℕ → ℕ → List ℕ → List ℕ → List ℕ → ℕ → List ℕ → List ℕ → ℕ → ℕ
-new_at depth rule k p i line starts q j others rest pos =
-    let f = found_at rule k p i q j in
-    new_by depth f.kind f p line starts q others rest pos
+-- A parent, filled, and its number of literals.
+pub record PremiseAt : Type 0 where
+  pub clause : Item
+  pub literals : ℕ
 
--- The literal of A that the claim lacks. R22: "For fac the claim is A without the literal at J where the two are positive, and without the
--- literal at I where they are negative."
--- Of the rules without B only fac goes by a positive literal at I, which stands at `at`.
-unfoldable pub dropped_at : Bool → List ℕ → ℕ → ℕ → ℕ → ℕ
-dropped_at usesB p at i j = cond usesB i (cond (within p (positive_at p at)) j i)
+abbrev pub premise_of : Premise → PremiseAt
+premise_of p = record { clause = item_of p.clause; literals = p.literals }
+
+-- What the claim keeps of a parent: of so many literals of its clause all but one.
+pub record KeptAt : Type 0 where
+  pub clause : Item
+  pub literals : ℕ
+  pub dropped : ℕ
+
+abbrev pub kept_of : Kept → KeptAt
+kept_of k = record { clause = item_of k.clause; literals = k.literals; dropped = k.dropped }
+
+abbrev pub without : PremiseAt → ℕ → KeptAt
+without p dropped = record { clause = p.clause; literals = p.literals; dropped = dropped }
+
+abbrev pub others_of : ℕ → KeptAt → Reader (Unit {0})
+others_of depth k = others depth k.literals k.dropped k.clause
 
 -- R21: "The claim, all of it filled, is the new literal, if there is one, then A's other literals, then B's other literals, in order."
-unfoldable pub claim_by : Found → Kept → List ℕ → List ℕ → List ℕ → List ℕ → List ℕ → List ℕ → ℕ
-claim_by f kept p line starts q others rest =
-    let new = new_by kept.depth f.kind f p line starts q others rest (literals_at rest) in
-    let first = others_at kept.depth p kept.a kept.i line starts rest new in
-    claim_end rest (others_at kept.depth q kept.b kept.j line others rest first)
+unfoldable pub literals_by : ℕ → KeptAt → KeptAt → FoundAt → Reader (Unit {0})
+literals_by depth a b f = literals >> (new_by depth a.clause b.clause f >> (others_of depth a >> others_of depth b))
 
--- The clauses have n and m literals, those at I and J begin at the places x and y.
-unfoldable pub claim_at : ℕ → Rule → ℕ → List ℕ → ℕ → ℕ → ℕ → List ℕ → List ℕ → List ℕ → ℕ → ℕ → ℕ → List ℕ → List ℕ → ℕ
-claim_at depth rule k p n i x line starts q m j y others rest =
-    let kept : Kept = record { depth = depth; a = n; i = dropped_at (uses rule).b p x i j; b = m; j = j } in
-    claim_by (found_at rule k p x q y) kept p line starts q others rest
+abbrev pub ends_after : Parsed (Unit {0}) → Bool
+ends_after bad = false
+ends_after (got u rest) = claim_ends rest
+
+-- V21: the claim is what stands in the line, up to its end.
+unfoldable pub claims : ℕ → KeptAt → KeptAt → FoundAt → List ℕ → Bool
+claims depth a b f claim = ends_after (literals_by depth a b f claim)

@@ -1,82 +1,111 @@
 -- Nothing here is to be believed: `judge_meets` (proofs/JudgeMeets) says that on written clauses it is `judge` of the definitions.
 -- Checks 7 to 11 of a step in bytes, over the parts of the text that begin with its parents, and what the answer means.
-use Rattle.std.specs.Prelude.{ℕ, ◌≤◌, ◌<◌, ◌≡◌, Bool, cond, ◌&&◌, List, [], T, eqb, length, drop, get_or}
-use Rattle.logic.specs.declared.Rule.{Rule}
-use Rattle.logic.specs.declared.Judged.{Judged}
-use Rattle.logic.specs.declared.Judged.TheVariants.{Passed, NoParent, WrongNumber, Misshapen, Disagrees, WrongClaim}
+use Rattle.std.specs.Prelude.{ℕ, ◌≤◌, ◌<◌, ◌≡◌, Bool, cond, ◌&&◌, List, [], T, eqb, length, drop, get_or, Option, Some, None, Ok, Err}
+use Rattle.logic.specs.declared.Check.{Check}
+use Rattle.logic.specs.StepChecks.{Checked}
 use Rattle.logic.specs.Syntax.{Clause, Step, by}
 use Rattle.logic.specs.Terms.{count}
 use Rattle.logic.specs.Each.{width}
-use Rattle.logic.specs.Rules.{uses}
 use Rattle.logic.specs.Judge.{judge}
 use Rattle.text.specs.Write.{put_clause}
 use Rattle.text.specs.Form.{formed_clause, form}
-use Rattle.text.specs.Read.{read_line}
+use Rattle.text.specs.Read.{Parsed, and_then, read_line}
+use Rattle.text.specs.Access.{stood}
 use Rattle.reader.specs.declared.forms.StepAt.{StepAt}
 use Rattle.reader.specs.LineAt.{step_of}
-use Rattle.clauses.specs.Shapes.{place_at, list_at}
-use Rattle.rules.specs.declared.steps.Size.{Size}
-use Rattle.rule_numbers.specs.Uses.{parent_numbers, unused_numbers}
-use Rattle.rule_table.specs.Rows.{row_at}
-use Rattle.rules.specs.Claim.{claim_at}
+use Rattle.clauses.specs.Entries.{entries}
+use Rattle.clauses.specs.Shapes.{literal, positive}
+use Rattle.filling.specs.Items.{Item}
+use Rattle.rules.specs.declared.steps.Parent as code
+use Rattle.rule_numbers.specs.declared.Numbers.{Numbers}
+use Rattle.rule_numbers.specs.Uses.{uses_of, parent_numbers, unused_numbers}
+use Rattle.rule_table.specs.Rows.{FoundAt, row_of, found_by, agrees_by}
+use Rattle.rules.specs.Claim.{PremiseAt, KeptAt, without, claims}
 
 -- R3: "The list of a used parent has exactly as many terms as the parent's highest variable plus 1, and 0 where it has no variable. The
 -- list of an unused parent has none, but for refl, whose first list has one term T."
-unfoldable pub lists_at : Bool → Bool → ℕ → ℕ → ℕ → ℕ → Bool
-lists_at a b firsts seconds v w = eqb firsts (cond a v 1) && eqb seconds (cond b w 0)
+unfoldable pub lists_fit : StepAt → ℕ → ℕ → Bool
+lists_fit s v w = eqb s.first.measure.count (cond (uses_of s.rule).a v 1) && eqb s.second.measure.count (cond (uses_of s.rule).b w 0)
 
--- V3: check 11 comes after 9 and 10.
-unfoldable pub then_claim : Judged → Bool → Judged
-then_claim Passed claimed = cond claimed Passed WrongClaim
-then_claim NoParent claimed = NoParent
-then_claim WrongNumber claimed = WrongNumber
-then_claim Misshapen claimed = Misshapen
-then_claim Disagrees claimed = Disagrees
-then_claim WrongClaim claimed = WrongClaim
+-- The entries that fill a clause of this width: none are asked for where it has no variables.
+unfoldable pub given : ℕ → List (List ℕ) → Option (List (List ℕ))
+given width es = cond (eqb width 0) None (Some es)
 
--- Checks 9 to 11 (V19 to V21). T9: the claim "begins wherever the second list ends", at `pos`: it is the rest of the line, up to its end.
-unfoldable pub conclude_at : ℕ → Rule → ℕ → List ℕ → ℕ → ℕ → List ℕ → List ℕ → List ℕ → ℕ → ℕ → List ℕ → ℕ → Judged
-conclude_at depth rule k p n i line starts q m j others pos =
-    let x = place_at p i in
-    let y = place_at q j in
-    let rest = drop pos line in
-    let claimed = eqb (claim_at depth rule k p n i x line starts q m j y others rest) (length rest) in
-    then_claim (row_at depth rule k p x line starts q y others) claimed
+abbrev pub clause_with : List ℕ → Option (List (List ℕ)) → Item
+clause_with bs es = record { bytes = bs; entries = es }
+
+-- The literal of A that the claim lacks. R22: "For fac the claim is A without the literal at J where the two are positive, and without the
+-- literal at I where they are negative."
+-- Of the rules without B only fac goes by a positive literal at I.
+unfoldable pub dropped_by : Bool → Parsed (Unit {0}) → ℕ → ℕ → ℕ
+dropped_by uses_b x i j = cond uses_b i (cond (stood (and_then x (λ _. positive))) j i)
+
+-- What checks 9 to 11 (V19 to V21) say of what was found: that there is such, that it agrees, and that the claim is the rule's.
+unfoldable pub checked : ℕ → KeptAt → KeptAt → List ℕ → Option FoundAt → Checked
+checked depth a b claim None = Err Check.Shape
+checked depth a b claim (Some f) =
+    cond (agrees_by depth a.clause b.clause f) (cond (claims depth a b f claim) (Ok tt) (Err Check.Claim)) (Err Check.Agreement)
+
+-- R5: "At I" is a position in A, "at J" one in B. T9: the claim "begins wherever the second list ends": it is the rest of the line.
+unfoldable pub conclude_by : ℕ → StepAt → PremiseAt → PremiseAt → List ℕ → Checked
+conclude_by depth s a b claim =
+    let x = literal s.i a.clause.bytes in
+    let y = literal s.j b.clause.bytes in
+    let kept = without a (dropped_by (uses_of s.rule).b x s.i s.j) in
+    checked depth kept (without b s.j) claim (found_by (row_of s.rule) s.k x y)
+
+-- A parent as it stands in the text: what begins with its clause, its number of literals and its width.
+pub record ParentAt : Type 0 where
+  pub clause : List ℕ
+  pub literals : ℕ
+  pub width : ℕ
+
+abbrev pub parent_of : code.Parent → ParentAt
+parent_of p = record { clause = p.clause.now; literals = p.literals; width = p.width }
+
+abbrev pub premise : List ℕ → Option (List (List ℕ)) → ℕ → PremiseAt
+premise bs es literals = record { clause = clause_with bs es; literals = literals }
+
+-- Checks 9 to 11 under the lists of the line. An unused parent has no literals. For fac I and J are positions in A: where B is unused, A
+-- stands for it.
+unfoldable pub under_lists : ℕ → ParentAt → ParentAt → List ℕ → StepAt → Checked
+under_lists depth a b line s =
+    let used = uses_of s.rule in
+    let firsts = given (cond used.a a.width 1) (entries (drop s.first.start line)) in
+    let seconds = given b.width (entries (drop s.second.start line)) in
+    let first = premise a.clause firsts (cond used.a a.literals 0) in
+    let claim = drop s.claim.start line in
+    let two = conclude_by depth s first (premise b.clause seconds b.literals) claim in
+    let one = conclude_by depth s first (premise a.clause firsts 0) claim in
+    cond used.b two one
 
 -- Checks 7 and 8 come before.
-unfoldable pub settled_as : Bool → Bool → Judged → Judged
-settled_as parents numbers answer = cond parents (cond numbers answer WrongNumber) NoParent
+unfoldable pub settled : Bool → Bool → Checked → Checked
+settled parents numbers answer = cond parents (cond numbers answer (Err Check.Numbers)) (Err Check.Parents)
 
--- A clause without variables is filled by no places.
-unfoldable pub filling_places : ℕ → List ℕ → List ℕ
-filling_places width places = cond (eqb width 0) [] places
+abbrev pub numbers_of : StepAt → Numbers
+numbers_of s = record { a = s.a; i = s.i; b = s.b; j = s.j; k = s.k }
 
--- A step, as it was read, over the parts of the text that begin with its parents; `own` is its own number. An unused parent has no
--- literals. R5: "At I" is a position in A, "at J" one in B; for fac both are in A: where B is unused, A stands for it.
-unfoldable pub step_at : ℕ → ℕ → List ℕ → Size → List ℕ → Size → List ℕ → StepAt → Judged
-step_at depth own p a q b line s =
-    let first = filling_places (cond (uses s.rule).a a.width 1) (list_at line s.first.start) in
-    let second = filling_places b.width (list_at line s.second.start) in
-    let n = cond (uses s.rule).a a.literals 0 in
-    let two = conclude_at depth s.rule s.k p n s.i line first q b.literals s.j second s.claim.start in
-    let one = conclude_at depth s.rule s.k p n s.i line first p 0 s.j first s.claim.start in
-    let fit = lists_at (uses s.rule).a (uses s.rule).b s.first.measure.count s.second.measure.count a.width b.width in
-    let numbers = unused_numbers s.rule s.a s.i s.b s.j s.k && fit in
-    settled_as (parent_numbers s.rule own s.a s.b) numbers (cond (uses s.rule).b two one)
+-- A step, as it was read, over its parents as they stand; `own` is its own number.
+unfoldable pub step_at : ℕ → ℕ → ParentAt → ParentAt → List ℕ → StepAt → Checked
+step_at depth own a b line s =
+    let numbers = numbers_of s in
+    let right = unused_numbers s.rule numbers && lists_fit s a.width b.width in
+    settled (parent_numbers s.rule own numbers) right (under_lists depth a b line s)
 
--- A part of a text that begins with a clause, formed, its terms at most so deep; its number of literals and its width are these.
-pub record HoldsClause (depth : ℕ) (p : List ℕ) (s : Size) (c : Clause) : Type 0 where
+-- A parent's clause, formed, its terms at most so deep; its number of literals and its width are these.
+pub record HoldsClause (depth : ℕ) (p : ParentAt) (c : Clause) : Type 0 where
   pub rest : List ℕ
-  pub written : p ≡ put_clause c rest
+  pub written : p.clause ≡ put_clause c rest
   pub formed : T (formed_clause depth c)
-  pub literals : s.literals ≡ length c
-  pub narrow : s.width ≡ width c
+  pub literals : p.literals ≡ length c
+  pub narrow : p.width ≡ width c
 
 -- V22, "A step passes checks 7 to 11 exactly when the rules give its claim from its parents by its numbers under its two lists": where the
--- line is the step s, its lists within the limit, and the parts hold the clauses that it names, if there are such, the answer is `judge`.
-unfoldable pub Judges : ℕ → ℕ → List ℕ → Size → List ℕ → Size → List ℕ → StepAt → Judged → Type 0
-Judges depth own p a q b line read r =
+-- line is the step s, its lists within the limit, and the parents hold the clauses that it names, if there are such, the answer is `judge`.
+unfoldable pub Judges : ℕ → ℕ → ParentAt → ParentAt → List ℕ → StepAt → Checked → Type 0
+Judges depth own a b line read r =
     (cs : List Clause) (s : Step) (table : List ℕ) → own ≡ length cs →
-    (s.a < length cs → HoldsClause depth p a (get_or cs s.a [])) → (s.b < length cs → HoldsClause depth q b (get_or cs s.b [])) →
+    (s.a < length cs → HoldsClause depth a (get_or cs s.a [])) → (s.b < length cs → HoldsClause depth b (get_or cs s.b [])) →
     read ≡ step_of table line s → read_line depth line ≡ form (by s) →
     count s.first ≤ 32 → count s.second ≤ 32 → r ≡ judge cs s

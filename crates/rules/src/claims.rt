@@ -1,83 +1,90 @@
-// Check 11: the fourth column of the rule table, and the claim as a whole. `rest` is the rest of the line from the claim on.
-ghost use Rattle.std.specs.Prelude.{◌≡◌, eqb, length};
-ghost use Rattle.clauses.specs.Shapes.{literals_at};
-ghost use Rattle.rules.specs.Claim.{new_by, claim_by};
+// Check 11: the fourth column of the rule table, and the claim as a whole.
+ghost use Rattle.std.specs.Prelude.{◌≡◌};
+ghost use Rattle.text.specs.Answers.{passed};
+ghost use Rattle.filling.specs.Items.{item_of};
+ghost use Rattle.rule_table.specs.Rows.{at_found};
+ghost use Rattle.rules.specs.Claim.{premise_of, without, kept_of, new_by, literals_by, claims};
 
-use expected::claims::{Hole, Terms, begin, ends, equated, others, reflexive, rewritten};
-use rule_table::{Found, Kind};
+use expected::claims::{begin, ends, equated, others, reflexive, rewritten};
+use filling::compare::Filled;
+use rule_table::Found;
 
-// What the claim keeps, of terms that nest at most `depth` deep: of A's first `a` literals all but literal i, of B's first `b` all but
-// literal j.
+// A parent with what fills it, and its number of literals.
 #[derive(Clone, Copy)]
-pub struct Kept {
-    pub depth: u8,
-    pub a: usize,
-    pub i: usize,
-    pub b: usize,
-    pub j: usize,
+pub struct Premise<'a> {
+    pub clause: Filled<'a>,
+    pub literals: usize,
 }
 
-// The beginning of the claim and the new literal, if any: the place past them.
-fn new_literal(
-    depth: u8,
-    f: Found,
-    a: &[u8],
-    first: &[usize],
-    b: &[u8],
-    second: &[usize],
-    line: &[u8],
-    rest: &[u8],
-) -> usize
-    ensures { result ≡ new_by depth f.kind f a.now line.now first.now b.now
-        second.now rest.now (literals_at rest.now) }
-{
-    let kind = f.kind;
-    match kind {
-        Kind::Reflexivity => reflexive(depth, line, first, rest),
-        Kind::Resolution => begin(rest),
-        Kind::Factoring => begin(rest),
-        Kind::Rewriting => {
-            let hole = Hole {
-                literal: f.literal,
-                term: f.left,
-                from: f.other,
-            };
-            rewritten(depth, a, first, b, second, line, rest, hole)
+impl<'a> Premise<'a> {
+    // All of its literals but this one.
+    pub fn without(self, dropped: usize) -> Kept<'a>
+        ensures { kept_of result ≡ without (premise_of self.entry) dropped }
+    {
+        Kept {
+            clause: self.clause,
+            literals: self.literals,
+            dropped,
         }
-        Kind::Acyclicity => {
-            let terms = Terms {
-                left: f.left,
-                right: f.more,
-            };
-            equated(depth, a, first, a, first, line, rest, terms)
-        }
-        Kind::Scalarity => {
-            let terms = Terms {
-                left: f.more,
-                right: f.other,
-            };
-            equated(depth, a, first, b, second, line, rest, terms)
-        }
-        Kind::Elimination => begin(rest),
     }
 }
 
-// The claim is the new literal, A's other literals, then B's other literals, up to the end of the line.
-pub fn claimed(
-    f: Found,
-    kept: Kept,
-    a: &[u8],
-    first: &[usize],
-    b: &[u8],
-    second: &[usize],
-    line: &[u8],
-    rest: &[u8],
-) -> bool
-    ensures { result ≡ eqb (claim_by f kept a.now line.now first.now b.now
-        second.now rest.now) (length rest.now) }
+// What the claim keeps of a parent: of so many literals of its clause all but one.
+#[derive(Clone, Copy)]
+pub struct Kept<'a> {
+    pub clause: Filled<'a>,
+    pub literals: usize,
+    pub dropped: usize,
+}
+
+// The new literal, if any, of what was found in the clauses a and b: what is left of the claim after it.
+#[tactic(auto, unfolding(crate::specs::Claim::new_by))]
+fn new_literal<'r>(
+    depth: u8,
+    found: Found<'_>,
+    a: Filled<'_>,
+    b: Filled<'_>,
+    rest: &'r [u8],
+) -> Option<&'r [u8]>
+    ensures { passed result ≡ new_by depth (item_of a.entry) (item_of b.entry) (at_found found.entry) rest.now }
 {
-    let new = new_literal(kept.depth, f, a, first, b, second, line, rest);
-    let middle = others(kept.depth, a, kept.a, kept.i, line, first, rest, new);
-    let last = others(kept.depth, b, kept.b, kept.j, line, second, rest, middle);
-    ends(rest, last)
+    match found {
+        Found::Nothing => reflexive(depth, a.entries, rest),
+        Found::Covering { .. } | Found::Denied => Some(rest),
+        Found::Rewriting {
+            literal,
+            term,
+            other,
+            ..
+        } => rewritten(depth, a.beside(literal), term, b.beside(other), rest),
+        Found::Crossing { left, more, .. } => equated(depth, a.beside(left), a.beside(more), rest),
+        Found::Calling { value, other, .. } => {
+            equated(depth, a.beside(value), b.beside(other), rest)
+        }
+    }
+}
+
+// The literals of the claim: what is left of the line after them.
+#[tactic(auto, unfolding(crate::specs::Claim::literals_by))]
+fn literals<'r>(
+    depth: u8,
+    found: Found<'_>,
+    a: Kept<'_>,
+    b: Kept<'_>,
+    claim: &'r [u8],
+) -> Option<&'r [u8]>
+    ensures { passed result ≡ literals_by depth (kept_of a.entry) (kept_of b.entry) (at_found found.entry) claim.now }
+{
+    let first = begin(claim)?;
+    let kept = new_literal(depth, found, a.clause, b.clause, first)?;
+    let last = others(depth, a.clause, a.literals, a.dropped, kept)?;
+    others(depth, b.clause, b.literals, b.dropped, last)
+}
+
+// The claim is the new literal, A's other literals, then B's other literals, up to the end of the line.
+#[tactic(auto, unfolding(crate::specs::Claim::claims))]
+pub fn claimed(depth: u8, found: Found<'_>, a: Kept<'_>, b: Kept<'_>, claim: &[u8]) -> bool
+    ensures { result ≡ claims depth (kept_of a.entry) (kept_of b.entry) (at_found found.entry) claim.now }
+{
+    literals(depth, found, a, b, claim).is_some_and(ends)
 }

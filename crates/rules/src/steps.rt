@@ -1,179 +1,158 @@
 // Checks 7 to 11 of a step.
 ghost use Rattle.std.specs.Prelude.{◌≡◌};
-ghost use Rattle.rule_table.specs.Rows.{answer};
-ghost use Rattle.clauses.specs.Shapes.{list_at};
-ghost use Rattle.rules.specs.Claim.{dropped_at};
-ghost use Rattle.rules.specs.Judging.{lists_at, then_claim, conclude_at, settled_as, filling_places, step_at, Judges};
+ghost use Rattle.text.specs.Answers.{passed};
+ghost use Rattle.clauses.specs.Entries.{entries as entries_in, texts};
+ghost use Rattle.filling.specs.Items.{item_of};
+ghost use Rattle.rules.specs.Claim.{premise_of};
+ghost use Rattle.rules.specs.Judging.{lists_fit, given, clause_with, dropped_by, conclude_by, parent_of, under_lists, step_at, Judges};
 
-use crate::claims::{Kept, claimed};
-use choices::{both, choose};
-use clauses::shapes::{list, literal, positive, within};
-use logic::{Judged, Rule};
+use crate::claims::{Premise, claimed};
+use clauses::items::{ENTRIES, entries};
+use clauses::shapes::{literal, positive};
+use filling::compare::Filled;
+use logic::Check;
 use reader::forms::StepAt;
-use rule_numbers::{parents_below, unused_zero, used};
+use rule_numbers::{Numbers, Uses};
 use rule_table::{agrees, find, table_row};
 use source::clause_part;
 
-// The places of a list: of each entry, and past the last.
-const PLACES: usize = 33;
-
-// Of a parent its number of literals, and its highest variable plus 1.
+// A parent of a step: the part of the text that begins with its clause, its number of literals, and its highest variable plus 1.
 #[derive(Clone, Copy)]
-pub struct Size {
+pub struct Parent<'a> {
+    pub clause: &'a [u8],
     pub literals: usize,
     pub width: usize,
 }
 
-// The numbers of literals of A and B; an unused one has none.
-#[derive(Clone, Copy)]
-struct Literals {
-    a: usize,
-    b: usize,
+// The second part of check 8 (V18): "a list has the wrong length". Of refl alone, which uses no A, the first list has one term.
+#[tactic(auto, unfolding(crate::specs::Judging::lists_fit))]
+fn lists_fit(step: StepAt, a: Parent<'_>, b: Parent<'_>) -> bool
+    ensures { result ≡ lists_fit step a.entry.width b.entry.width }
+{
+    let uses = Uses::of(step.rule);
+    step.first.measure.count == (if uses.a { a.width } else { 1 })
+        && step.second.measure.count == (if uses.b { b.width } else { 0 })
 }
 
-// The second part of check 8 (V18): "a list has the wrong length", of a rule that uses A or not, and B or not.
-fn lists_fit(a: bool, b: bool, firsts: usize, seconds: usize, v: usize, w: usize) -> bool
-    ensures { result ≡ lists_at «a» «b» firsts seconds v w }
+// The entries of the list that begins here, if it fills a clause with variables; they are not looked for otherwise.
+#[tactic(auto, unfolding(crate::specs::Judging::given))]
+fn list_for(width: usize, list: &[u8]) -> [&[u8]; ENTRIES]
+    ensures { given width (texts result) ≡ given width (entries_in list.now) }
 {
-    let one = choose(a, v, 1);
-    let two = choose(b, w, 0);
-    both(firsts == one, seconds == two)
+    if width == 0 {
+        return [&[]; ENTRIES];
+    }
+    entries(list)
 }
 
-// The literal of A that the claim lacks; the literal at I stands at x.
-fn dropped(uses_b: bool, a: &[u8], x: usize, i: usize, j: usize) -> usize
-    ensures { result ≡ dropped_at uses_b a.now x i j }
+// A clause of this width with the entries that fill it: none where it has no variables.
+#[tactic(auto, unfolding(crate::specs::Judging::given))]
+fn filled<'a>(item: &'a [u8], width: usize, entries: &'a [&'a [u8]]) -> Filled<'a>
+    ensures { item_of result ≡ clause_with item.now (given width (texts entries.now)) }
 {
-    let other = choose(within(a, positive(a, x)), j, i);
-    choose(uses_b, i, other)
-}
-
-// The first of checks 9, 10 and 11 that fails.
-fn judged(shaped: bool, agreed: bool, claims: bool) -> Judged
-    ensures { result ≡ then_claim (answer shaped agreed) claims }
-{
-    if shaped {
-        if agreed {
-            if claims {
-                Judged::Passed
-            } else {
-                Judged::WrongClaim
-            }
-        } else {
-            Judged::Disagrees
-        }
-    } else {
-        Judged::Misshapen
+    Filled {
+        item,
+        entries: (width > 0).then_some(entries),
     }
 }
 
-// Checks 9 to 11 of a step, over its parents with their numbers of literals and its lists.
+// The literal of A that the claim lacks, where x is the literal at I.
+#[tactic(auto, unfolding(crate::specs::Judging::dropped_by, text::specs::Access::stood))]
+fn dropped(uses_b: bool, x: Option<&[u8]>, i: usize, j: usize) -> usize
+    ensures { result ≡ dropped_by uses_b (passed x.entry) i j }
+{
+    if uses_b {
+        return i;
+    }
+    let Some(literal) = x else {
+        return i;
+    };
+    match positive(literal) {
+        Some(_) => j,
+        None => i,
+    }
+}
+
+// Checks 9 to 11 of a step, over its premises, an unused one without literals. The claim is the rest of the line from there on.
+#[tactic(auto, unfolding(crate::specs::Judging::conclude_by, crate::specs::Judging::checked))]
 fn conclude(
     depth: u8,
     step: StepAt,
-    a: &[u8],
-    first: &[usize],
-    b: &[u8],
-    second: &[usize],
+    a: Premise<'_>,
+    b: Premise<'_>,
+    claim: &[u8],
+) -> Result<(), Check>
+    ensures { result ≡ conclude_by depth step (premise_of a.entry) (premise_of b.entry) claim.now }
+{
+    let x = literal(a.clause.item, step.i);
+    let y = literal(b.clause.item, step.j);
+    let found = find(table_row(step.rule), step.k, x, y).ok_or(Check::Shape)?;
+    Check::Agreement.passed_if(agrees(depth, found, a.clause, b.clause))?;
+    let i = dropped(Uses::of(step.rule).b, x, step.i, step.j);
+    let claims = claimed(depth, found, a.without(i), b.without(step.j), claim);
+    Check::Claim.passed_if(claims)
+}
+
+// Checks 9 to 11 under the lists of the line.
+#[tactic(auto, unfolding(crate::specs::Judging::under_lists))]
+fn under_lists(
+    depth: u8,
+    a: Parent<'_>,
+    b: Parent<'_>,
     line: &[u8],
-    literals: Literals,
-) -> Judged
-    ensures { result ≡ conclude_at depth step.rule step.k a.now literals.a step.i line.now
-        first.now b.now literals.b step.j second.now step.claim.start }
+    step: StepAt,
+) -> Result<(), Check>
+    ensures { result ≡ under_lists depth (parent_of a.entry) (parent_of b.entry) line.now step }
 {
-    let rule = step.rule;
-    let claim = step.claim;
-    let x = literal(a, step.i);
-    let y = literal(b, step.j);
-    let f = find(table_row(rule), step.k, a, x, b, y);
-    let kept = Kept {
-        depth,
-        a: literals.a,
-        i: dropped(used(rule, 2), a, x, step.i, step.j),
-        b: literals.b,
-        j: step.j,
+    let uses = Uses::of(step.rule);
+    let width = if uses.a { a.width } else { 1 };
+    let firsts = list_for(width, clause_part(line, step.first.start));
+    let first = Premise {
+        clause: filled(a.clause, width, &firsts),
+        literals: if uses.a { a.literals } else { 0 },
     };
-    let rest = clause_part(line, claim.start);
-    let claims = claimed(f, kept, a, first, b, second, line, rest);
-    let agreed = agrees(depth, f, a, first, b, second, line);
-    judged(f.shaped, agreed, claims)
-}
-
-// Checks 7 and 8 come before.
-fn settled(parents: bool, numbers: bool, answer: Judged) -> Judged
-    ensures { result ≡ settled_as parents numbers answer }
-{
-    if parents {
-        if numbers { answer } else { Judged::WrongNumber }
-    } else {
-        Judged::NoParent
+    let claim = clause_part(line, step.claim.start);
+    if !uses.b {
+        let none = Premise {
+            literals: 0,
+            ..first
+        };
+        return conclude(depth, step, first, none, claim);
     }
+    let seconds = list_for(b.width, clause_part(line, step.second.start));
+    let second = Premise {
+        clause: filled(b.clause, b.width, &seconds),
+        literals: b.literals,
+    };
+    conclude(depth, step, first, second, claim)
 }
 
-// The places of a list that fills a clause of this width: none where it has no variables.
-#[tactic(auto, unfolding(crate::specs::Judging::filling_places))]
-fn filling(width: usize, places: &[usize]) -> &[usize]
-    ensures { result.now ≡ filling_places width places.now }
-{
-    if width == 0 {
-        return &places[0..0];
-    }
-    places
-}
-
-// The places of the list that begins at `at`, if it fills a clause with variables; they are not looked for otherwise.
-fn places(width: usize, line: &[u8], at: usize) -> [usize; PLACES]
-    ensures { filling_places width result ≡ filling_places width (list_at line.now at) }
-{
-    if width > 0 {
-        return list(line, at);
-    }
-    [0; PLACES]
-}
-
-// Checks 7 to 11 of a step that was read, over the parts of the text that begin with the clauses that it names as A and B; `own` is its own
-// number. Where B is unused, A stands for it. Terms of these clauses nest at most `depth` deep.
+// Checks 7 to 11 of a step that was read, over the clauses that it names as A and B; `own` is its own number. Where B is unused, A stands
+// for it. Terms of these clauses nest at most `depth` deep.
+#[tactic(auto, unfolding(crate::specs::Judging::step_at, crate::specs::Judging::settled), using(crate::proofs::JudgeMeets::what_judges))]
 pub fn judge(
     depth: u8,
     own: usize,
-    a: &[u8],
-    of_a: Size,
-    b: &[u8],
-    of_b: Size,
+    a: Parent<'_>,
+    b: Parent<'_>,
     line: &[u8],
     step: StepAt,
-) -> Judged
-    ensures value { result ≡ step_at depth own a.now of_a b.now of_b line.now step }
-    ensures judges { Judges depth own a.now of_a b.now of_b line.now step result }
-    ensures a_unchanged { (a.exit.now ≡ a.entry.now) × (b.exit.now ≡ b.entry.now) × (line.exit.now ≡ line.entry.now) }
+) -> Result<(), Check>
+    ensures value { result ≡ step_at depth own (parent_of a.entry) (parent_of b.entry) line.now step }
+    ensures judges { Judges depth own (parent_of a.entry) (parent_of b.entry) line.now step result }
+    ensures a_unchanged { (a.exit.clause.now ≡ a.entry.clause.now) × (b.exit.clause.now ≡ b.entry.clause.now)
+        × (line.exit.now ≡ line.entry.now) }
 {
-    let rule = step.rule;
-    let first = step.first;
-    let second = step.second;
-    let ones = first.measure;
-    let twos = second.measure;
-    let uses_a = used(rule, 0);
-    let uses_b = used(rule, 2);
-    let zero = unused_zero(rule, step.a, step.i, step.b, step.j, step.k);
-    let fit = lists_fit(
-        uses_a, uses_b, ones.count, twos.count, of_a.width, of_b.width,
-    );
-    let below = parents_below(rule, own, step.a, step.b);
-    let n = choose(uses_a, of_a.literals, 0);
-    let width = choose(uses_a, of_a.width, 1);
-    let firsts = places(width, line, first.start);
-    let a_list = filling(width, &firsts);
-    if uses_b {
-        let seconds = places(of_b.width, line, second.start);
-        let b_list = filling(of_b.width, &seconds);
-        let two = Literals {
-            a: n,
-            b: of_b.literals,
-        };
-        let answer = conclude(depth, step, a, a_list, b, b_list, line, two);
-        return settled(below, both(zero, fit), answer);
-    }
-    let one = Literals { a: n, b: 0 };
-    let answer = conclude(depth, step, a, a_list, a, a_list, line, one);
-    settled(below, both(zero, fit), answer)
+    let numbers = Numbers {
+        a: step.a,
+        i: step.i,
+        b: step.b,
+        j: step.j,
+        k: step.k,
+    };
+    let below = numbers.parents_below(step.rule, own);
+    let right = numbers.unused_zero(step.rule) && lists_fit(step, a, b);
+    Check::Parents.passed_if(below)?;
+    Check::Numbers.passed_if(right)?;
+    under_lists(depth, a, b, line, step)
 }

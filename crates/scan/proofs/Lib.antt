@@ -1,2 +1,2 @@
-pub mod Digits
-pub mod Choices
+pub mod Tried
+pub mod Strips

@@ -1,76 +1,62 @@
 // Numbers N.
-ghost use Rattle.std.specs.Prelude.{◌≡◌, ◌≤◌, length, drop};
+ghost use Rattle.std.specs.Prelude.{◌≡◌, ◌≤◌, IfSome};
 ghost use Rattle.text.specs.Form.{max_number};
 ghost use Rattle.text.specs.Read.{goes_on, read_number, read_digits, digit as is_digit};
-ghost use Rattle.scan.specs.Numbers.{number_at};
+ghost use Rattle.text.specs.Answers.{parsed};
 
-use crate::kinds::{KIND_DIGIT, kind};
+use crate::kinds::Kind;
 
 // The largest number N.
 const LARGEST: usize = 65535;
 
-#[derive(Clone, Copy)]
-pub struct NumberAt {
-    pub end: usize,
-    pub value: usize,
-}
-
+#[tactic(auto, using(text::proofs::KindBytes::kind_digit))]
 fn digit(b: u8) -> bool
     ensures { result ≡ is_digit b }
 {
-    kind(b) == KIND_DIGIT
+    Kind::of(b) == Kind::Digit
 }
 
 // Whether a digit may follow n and make it `further`.
+#[tactic(auto, unfolding(text::specs::Read::goes_on))]
 fn goes_on(n: usize, further: usize) -> bool
     ensures { result ≡ goes_on n further }
 {
-    if n == 0 {
-        return false;
-    }
-    further <= LARGEST
+    n > 0 && further <= LARGEST
 }
 
 // The digits after those read, whose value is `first`.
-fn digits(s: &[u8], at: usize, first: usize) -> NumberAt
-    requires { (at ≤ length s.now) × (first ≤ max_number) }
-    ensures { result ≡ number_at s.now (read_digits first (drop at s.now)) }
+#[tactic(auto, unfolding(text::specs::Read::read_digits, text::specs::Read::digit, text::specs::Read::goes_on))]
+fn digits(s: &[u8], first: usize) -> Option<(usize, &[u8])>
+    requires { first ≤ max_number }
+    ensures value { parsed result ≡ read_digits first s.now }
+    ensures small { IfSome result (λ read. read.0 ≤ max_number) }
 {
-    let n = s.len();
+    let mut rest = s;
     let mut value = first;
-    let mut i = at;
-    while i < n {
-        if !digit(s[i]) {
-            return NumberAt { end: i, value };
+    while let Some((b, after)) = rest.split_first() {
+        if !digit(*b) {
+            break;
         }
-        let next = value * 10 + (s[i] - b'0') as usize;
+        let next = value * 10 + (*b - b'0') as usize;
         if !goes_on(value, next) {
-            return NumberAt {
-                end: n + 1,
-                value: 0,
-            };
+            return None;
         }
         value = next;
-        i += 1;
+        rest = after;
     }
-    NumberAt { end: i, value }
+    Some((value, rest))
 }
 
-pub fn number(s: &[u8], at: usize) -> NumberAt
-    ensures value { result ≡ number_at s.now (read_number (drop at s.now)) }
+// The number that s begins with, and the bytes after it.
+#[tactic(auto, unfolding(text::specs::Read::read_number, text::specs::Read::digit))]
+pub fn number(s: &[u8]) -> Option<(usize, &[u8])>
+    ensures value { parsed result ≡ read_number s.now }
+    ensures small { IfSome result (λ read. read.0 ≤ max_number) }
     ensures s_unchanged { s.exit.now ≡ s.entry.now }
 {
-    if at >= s.len() {
-        return NumberAt {
-            end: s.len() + 1,
-            value: 0,
-        };
+    let (b, after) = s.split_first()?;
+    if !digit(*b) {
+        return None;
     }
-    if !digit(s[at]) {
-        return NumberAt {
-            end: s.len() + 1,
-            value: 0,
-        };
-    }
-    digits(s, at + 1, (s[at] - b'0') as usize)
+    digits(after, (*b - b'0') as usize)
 }

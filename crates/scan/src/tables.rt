@@ -1,144 +1,93 @@
-// The words of a table, one after the other: the first that stands at the place. A longer or shorter one is tried before the others.
-ghost use Rattle.std.specs.Prelude.{◌≤◌, ◌≡◌, length, drop};
-ghost use Rattle.text.specs.Read.{read_sign, read_rule};
-ghost use Rattle.scan.specs.Tables.{read_link_word, read_arrow_word, link_at, arrow_at, rule_at, sign_at, word_at};
+// The tables of words of the text form.
+ghost use Rattle.std.specs.Prelude.{◌≡◌, List};
+ghost use Rattle.text.specs.Words.{sign_word, link_word, arrow_word, rule_word};
+ghost use Rattle.text.specs.Read.{signs, links, arrow_table, rules, one_of, each, return};
+ghost use Rattle.text.specs.Answers.{parsed};
+ghost use Rattle.scan.specs.Tables.{Words, held, spelled};
 
 use crate::words::word;
 use logic::{Arrow, Link, Rule, Sign};
 
-#[derive(Clone, Copy)]
-pub struct LinkAt {
-    pub end: usize,
-    pub link: Link,
+// The values of a table, each with a word of its own.
+pub trait Named: Copy + 'static {
+    ghost word_of: { Words Self };
+
+    ghost all: { List Self };
+
+    // The values and their words, in the order of the text form.
+    fn table() -> &'static [(Self, &'static [u8])]
+        ensures { held result.now ≡ spelled word_of all };
 }
 
-#[derive(Clone, Copy)]
-pub struct ArrowAt {
-    pub end: usize,
-    pub arrow: Arrow,
+impl Named for Sign {
+    ghost word_of = { sign_word };
+
+    ghost all = { signs };
+
+    fn table() -> &'static [(Self, &'static [u8])] {
+        &[(Sign::Positive, b"+"), (Sign::Negative, b"-")]
+    }
 }
 
-#[derive(Clone, Copy)]
-pub struct RuleAt {
-    pub end: usize,
-    pub rule: Rule,
+impl Named for Link {
+    ghost word_of = { link_word };
+
+    ghost all = { links };
+
+    fn table() -> &'static [(Self, &'static [u8])] {
+        &[(Link::Eq, b"eq"), (Link::Mem, b"mem"), (Link::Sub, b"sub")]
+    }
 }
 
-#[derive(Clone, Copy)]
-pub struct SignAt {
-    pub end: usize,
-    pub sign: Sign,
+impl Named for Arrow {
+    ghost word_of = { arrow_word };
+
+    ghost all = { arrow_table };
+
+    fn table() -> &'static [(Self, &'static [u8])] {
+        &[
+            (Arrow::Sv, b"sv"),
+            (Arrow::Si, b"si"),
+            (Arrow::Mv, b"mv"),
+            (Arrow::Mi, b"mi"),
+            (Arrow::St, b"st"),
+            (Arrow::Mt, b"mt"),
+        ]
+    }
 }
 
-// Which word of a table: how many stand before it, and where it ends.
-#[derive(Clone, Copy)]
-struct WordAt {
-    end: usize,
-    number: usize,
+impl Named for Rule {
+    ghost word_of = { rule_word };
+
+    ghost all = { rules };
+
+    fn table() -> &'static [(Self, &'static [u8])] {
+        &[
+            (Rule::Refl, b"refl"),
+            (Rule::Res, b"res"),
+            (Rule::Fac, b"fac"),
+            (Rule::Par, b"par"),
+            (Rule::Acy, b"acy"),
+            (Rule::Tra, b"tra"),
+            (Rule::Inc, b"inc"),
+            (Rule::Inh, b"inh"),
+            (Rule::Inp, b"inp"),
+            (Rule::Out, b"out"),
+            (Rule::Sca, b"sca"),
+            (Rule::Eli, b"eli"),
+        ]
+    }
 }
 
-// The words of the table have `width` letters each; the first that stands at the place.
-fn which(s: &[u8], at: usize, width: usize, table: &[u8]) -> WordAt
-    requires { 1 ≤ width }
-    ensures { result ≡ word_at s.now (drop at s.now) width 0 (length table.now) table.now }
+// The value whose word s begins with, the first of the table that does, and the bytes after the word.
+pub fn one_of<T: Named>(s: &[u8]) -> Option<(T, &[u8])>
+    ensures value { parsed result ≡ one_of (each T.word_of return T.all) s.now }
+    ensures s_unchanged { s.exit.now ≡ s.entry.now }
 {
-    let mut number = 0;
-    let mut from = 0;
-    while table.len() - from >= width {
-        let to = from + width;
-        let end = word(s, at, &table[from..to]);
-        if end <= s.len() {
-            return WordAt { end, number };
+    for (value, name) in T::table() {
+        if let Some(rest) = word(s, name) {
+            return Some((*value, rest));
         }
-        number += 1;
-        from = to;
     }
-    WordAt {
-        end: s.len() + 1,
-        number,
-    }
-}
-
-// Where no word of a table stands, its last is named.
-const LINKS: [Link; 3] = [Link::Mem, Link::Sub, Link::Sub];
-
-pub fn link(s: &[u8], at: usize) -> LinkAt
-    ensures value { result ≡ link_at s.now (read_link_word (drop at s.now)) }
-    ensures s_unchanged { s.exit.now ≡ s.entry.now }
-{
-    let first = word(s, at, b"eq");
-    if first <= s.len() {
-        return LinkAt {
-            end: first,
-            link: Link::Eq,
-        };
-    }
-    let w = which(s, at, 3, b"memsub");
-    let n = w.number;
-    let link = LINKS[n];
-    LinkAt { end: w.end, link }
-}
-
-const ARROWS: [Arrow; 7] = [
-    Arrow::Sv,
-    Arrow::Si,
-    Arrow::Mv,
-    Arrow::Mi,
-    Arrow::St,
-    Arrow::Mt,
-    Arrow::Mt,
-];
-
-pub fn arrow(s: &[u8], at: usize) -> ArrowAt
-    ensures value { result ≡ arrow_at s.now (read_arrow_word (drop at s.now)) }
-    ensures s_unchanged { s.exit.now ≡ s.entry.now }
-{
-    let w = which(s, at, 2, b"svsimvmistmt");
-    let n = w.number;
-    let arrow = ARROWS[n];
-    ArrowAt { end: w.end, arrow }
-}
-
-const RULES: [Rule; 12] = [
-    Rule::Res,
-    Rule::Fac,
-    Rule::Par,
-    Rule::Acy,
-    Rule::Tra,
-    Rule::Inc,
-    Rule::Inh,
-    Rule::Inp,
-    Rule::Out,
-    Rule::Sca,
-    Rule::Eli,
-    Rule::Eli,
-];
-
-pub fn rule(s: &[u8], at: usize) -> RuleAt
-    ensures value { result ≡ rule_at s.now (read_rule (drop at s.now)) }
-    ensures s_unchanged { s.exit.now ≡ s.entry.now }
-{
-    let first = word(s, at, b"refl");
-    if first <= s.len() {
-        return RuleAt {
-            end: first,
-            rule: Rule::Refl,
-        };
-    }
-    let w = which(s, at, 3, b"resfacparacytraincinhinpoutscaeli");
-    let n = w.number;
-    let rule = RULES[n];
-    RuleAt { end: w.end, rule }
-}
-
-const SIGNS: [Sign; 3] = [Sign::Positive, Sign::Negative, Sign::Negative];
-
-pub fn sign(s: &[u8], at: usize) -> SignAt
-    ensures value { result ≡ sign_at s.now (read_sign (drop at s.now)) }
-    ensures s_unchanged { s.exit.now ≡ s.entry.now }
-{
-    let w = which(s, at, 1, b"+-");
-    let n = w.number;
-    let sign = SIGNS[n];
-    SignAt { end: w.end, sign }
+    None
 }

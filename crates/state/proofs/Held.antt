@@ -1,6 +1,6 @@
 -- The state that the code holds represents the state of the definitions, line after line.
 use Prim.Native.Nat.{ℕ, ◌+◌, ◌≤◌, ◌<◌}
-use mathlib.Core.Path.{◌≡◌, refl, sym, ◌∙◌, ap}
+use mathlib.Core.Path.{◌≡◌, refl, sym, ◌∙◌, ap, subst}
 use mathlib.Core.Bool.{◌&&◌}
 use mathlib.Core.List.{List, [], ◌∷◌, ◌++◌, map, map-append, append_assoc, append-nil}
 use native.Mathlib.Omega.{arith}
@@ -16,16 +16,19 @@ use Rattle.logic.specs.Each.{width}
 use Rattle.logic.proofs.Both.{right}
 use Rattle.state.specs.declared.HeldState as code
 use Rattle.state.specs.declared.Added.{Added}
+use Rattle.std.specs.Prelude.{Option, Some, None, Result, Ok, Err}
+use Rattle.logic.specs.declared.Check.{Check}
+use Rattle.logic.specs.StepChecks.{Checked, if_passed}
 use Rattle.text.specs.Write.{put_clause}
 use Rattle.text.specs.Form.{Reading, form, no_form, formed_number, formed_terms, formed_clause, formed_step, formed_line}
 use Rattle.text.specs.Read.{read_line}
 use Rattle.text.specs.Figures.{office, max_symbols, max_parts}
-use Rattle.state.specs.State.{State, fresh, claim_of, clauses, advance, is_empty, ordered, has_constant, constant_ready, clause_fits, list_fits, within_limits, symbols_declared, after}
+use Rattle.state.specs.State.{State, fresh, claim_of, clauses, advance, is_empty, ordered, constant_ready, clause_fits, list_fits, within_limits, symbols_declared, after}
 use Rattle.state.specs.Failure.{line_failure, read_failure}
-use Rattle.reader.specs.Summary.{of_clause, joined, bounds}
+use Rattle.reader.specs.Summary.{of_clause, joined, bounds, clause_measure}
 use Rattle.reader.specs.LineAt.{from_clause, place_of, step_of, line_of}
-use Rattle.state.specs.ReadLine.{fresh_state, held_table, clause_failure, step_bounds, step_failure, failure_of, seen_at, placed, byte_of, counted, clause_added, added_by, symbol_held, clause_held, with_added}
-use Rattle.state.specs.Represents.{Stands, Represents, Sized, Begins, Sees, LineStands, Adds}
+use Rattle.state.specs.ReadLine.{fresh_state, held_table, clause_failure, step_bounds, step_failure, failure_of, passing, seen_at, placed, byte_of, counted, clause_added, added_by, symbol_held, clause_held, with_added}
+use Rattle.state.specs.Represents.{Stands, Represents, Sized, Begins, SeenAs, Sees, LineStands, SizesAdded, Adds}
 use Rattle.text.proofs.Plain.{clause_plain, in_front}
 use Rattle.text.proofs.Sound.{line_sound}
 use Rattle.reader.proofs.LineParts.{input_place, claim_place}
@@ -33,7 +36,8 @@ use Rattle.reader.proofs.Bounds.{tell_terms, tell_clause, width_told, declared_t
 use Rattle.state.proofs.Limits.{and_comm, input_limits, step_limits, clause_small}
 use Rattle.text.proofs.Tests.{T_and}
 use Rattle.reader.specs.declared.forms.LineAt.{LineAt}
-use Rattle.state.proofs.StateCode.{zero_or}
+use Rattle.reader.specs.declared.forms.LineAt.TheVariants.{Sym, Input, By}
+use Rattle.state.proofs.StateCode.{passed_both}
 
 pub fresh_begins : Begins fresh_state
 unfolding Begins fresh_state fresh held_table clauses
@@ -60,26 +64,48 @@ no_steps is [] = eq-eqb _ _ (ap length (append-nil is))
 no_steps is (s ∷ ss) = ne_eqb (length (is ++ claim_of s ∷ map claim_of ss)) (length is) (λ e. omega (arith, length-append is (claim_of s ∷ map claim_of ss)))
 
 module _ {depth : ℕ} {part : ℕ → List ℕ} {held : code.HeldState} {st : State} (R : Represents depth part held st) (bytes : List ℕ) where
-  held_failure : (r : Reading) →
-      failure_of held.symbols held.clauses held.inputs (has_constant st.symbols) (line_of st.symbols bytes r) ≡ read_failure st r
-  unfolding failure_of step_failure step_bounds clause_failure read_failure line_failure line_of ordered constant_ready within_limits symbols_declared clauses step_of joined
-  held_failure no_form = refl
-  held_failure (form (syntax.sym k)) =
-      rw (R.count, R.symbols, no_clauses st.inputs st.steps, and_comm (ltb (length st.symbols) max_symbols) (leb k max_parts))
-  held_failure (form (input c)) = rw (R.count, R.inputs, no_steps st.inputs st.steps, input_limits st.symbols c, tell_clause (declared_told st.symbols) c)
-  held_failure (form (by s)) =
+  -- Checks 3 to 6 by what is held are those of the definitions.
+  sym_failure : (k : ℕ) → failure_of held (Sym k) ≡ read_failure st (form (syntax.sym k))
+  unfolding failure_of read_failure line_failure ordered constant_ready within_limits symbols_declared clauses
+  sym_failure k =
+      rw (R.count, R.symbols, no_clauses st.inputs st.steps, and_comm (ltb (length st.symbols) max_symbols) (leb k max_parts)) refl
+
+  input_failure : (c : Clause) →
+      failure_of held (Input (record { start = place_of bytes (from_clause c); measure = clause_measure st.symbols c })) ≡ read_failure st (form (input c))
+  unfolding failure_of clause_failure read_failure line_failure ordered constant_ready within_limits symbols_declared clauses
+  input_failure c =
+      rw (R.table, R.count, R.inputs, no_steps st.inputs st.steps, input_limits st.symbols c, tell_clause (declared_told st.symbols) c) refl
+
+  step_failure_lem : (s : Step) → failure_of held (By (step_of st.symbols bytes s)) ≡ read_failure st (form (by s))
+  unfolding failure_of step_failure step_bounds clause_failure read_failure line_failure ordered constant_ready within_limits symbols_declared step_of joined
+  step_failure_lem s =
       rw (
+        R.table,
         step_limits st.symbols bytes s,
         tell_terms (declared_told st.symbols) s.first,
         tell_terms (declared_told st.symbols) s.second,
         tell_clause (declared_told st.symbols) s.claim,
-      )
+      ) refl
 
-pub line_seen : (depth : ℕ) (counts : List ℕ) (symbols clauses inputs : ℕ) (bytes : List ℕ) →
-    Sees depth counts symbols clauses inputs bytes (seen_at depth counts symbols clauses inputs bytes)
-unfolding Sees seen_at held_table
-line_seen depth counts symbols clauses inputs bytes part held st R a b c d =
-    rw (a, b, c, d, R.table) (held_failure R bytes (read_line depth bytes), refl)
+  seen_as : (r : Reading) (l : LineAt) (w w' : Checked) → w ≡ w' → line_of st.symbols bytes r ≡ Some l → SeenAs st bytes r w' (if_passed w l)
+  unfolding SeenAs
+  seen_as r l (Ok u) w' e o = (sym e, o)
+  seen_as r l (Err c) w' e o = sym e
+
+  held_seen : (r : Reading) → SeenAs st bytes r (read_failure st r) (passing held (line_of st.symbols bytes r))
+  unfolding SeenAs read_failure passing line_of
+  held_seen no_form = refl
+  held_seen (form (syntax.sym k)) = seen_as (form (syntax.sym k)) _ _ _ (sym_failure k) refl
+  held_seen (form (input c)) = seen_as (form (input c)) _ _ _ (input_failure c) refl
+  held_seen (form (by s)) = seen_as (form (by s)) _ _ _ (step_failure_lem s) refl
+
+line_seen : (depth : ℕ) (held : code.HeldState) (bytes : List ℕ) → Sees depth held bytes (seen_at depth held bytes)
+unfolding Sees seen_at
+line_seen depth held bytes part st R = rw R.table (held_seen R bytes (read_line depth bytes))
+
+-- What is seen of a line by the code is what the definitions say.
+pub line_sees : (depth : ℕ) (held : code.HeldState) (bytes : List ℕ) (r : Result LineAt Check) → r ≡ seen_at depth held bytes → Sees depth held bytes r
+line_sees depth held bytes r e = rw e (line_seen depth held bytes)
 
 -- What holds of each number held and its clause holds with one more of both.
 module _ (cs : List Clause) (c : Clause) (xs : List ℕ) (x n : ℕ) (count : n ≡ length cs) (room : n < length xs) (Q : ℕ → Clause → Type 0) (new : Q x c) (old : (m : ℕ) → m < length cs → Q (get_or xs m 0) (get_or cs m [])) where
@@ -125,13 +151,13 @@ module _ (st st' : State) (c : Clause) (e : clauses st' ≡ clauses st ++ (c ∷
     places = rw (← o) (one_more held.starts at R.starts_room (λ m d. Stands depth part m d) S R.places);
   })
 
--- No clause more: what is stored past the clauses is of none of them.
-sized_same : {st st' : State} {n : ℕ} (x y : ℕ) (ls ws : List ℕ) → clauses st' ≡ clauses st → n ≡ length (clauses st) → Sized st ls ws → Sized st' (set ls n x) (set ws n y)
-sized_same {n = n} x y ls ws e count S = record {
-  literals_room = length-set ls n x ∙ S.literals_room;
-  widths_room = length-set ws n y ∙ S.widths_room;
-  literals_of = λ m h. rw (e, get_or-set_other ls n m x 0 (λ q. omega (arith, count, ap length e))) (S.literals_of m (omega (arith, ap length e)));
-  widths_of = λ m h. rw (e, get_or-set_other ws n m y 0 (λ q. omega (arith, count, ap length e))) (S.widths_of m (omega (arith, ap length e)));
+-- No clause more.
+sized_same : {st st' : State} {ls ws : List ℕ} → clauses st' ≡ clauses st → Sized st ls ws → Sized st' ls ws
+sized_same e S = record {
+  literals_room = S.literals_room;
+  widths_room = S.widths_room;
+  literals_of = rw e S.literals_of;
+  widths_of = rw e S.widths_of;
 }
 
 -- A clause of a line stands where the line does.
@@ -179,14 +205,14 @@ step_clauses st s = ap (λ x. st.inputs ++ x) (map-append claim_of st.steps (s �
 
 -- After a line that passes checks 2 to 6 the state that comes back represents the state after the line.
 module _ {depth start : ℕ} {part : ℕ → List ℕ} {bytes : List ℕ} {held : code.HeldState} {st : State} (R : Represents depth part held st) (P : LineStands part start bytes held)
-    (passes : read_failure st (read_line depth bytes) ≡ 0) where
+    (passes : read_failure st (read_line depth bytes) ≡ Ok tt) where
   line_fits_lem : (l : Line) → read_line depth bytes ≡ form l → T (formed_line depth l) × T (within_limits st l)
   unfolding read_failure line_failure
   line_fits_lem l e =
       let z = sym (ap (read_failure st) e) ∙ passes in
-      let o = zero_or (ordered st l) _ 3 (λ h. omega arith) z in
-      let c = zero_or (constant_ready st l) _ 4 (λ h. omega arith) o.1 in
-      ((line_sound depth bytes l e).1, (zero_or (within_limits st l) _ 5 (λ h. omega arith) c.1).0)
+      let o = passed_both (ordered st l) _ Check.Order z in
+      let c = passed_both (constant_ready st l) _ Check.Constant o.1 in
+      ((line_sound depth bytes l e).1, (passed_both (within_limits st l) _ Check.Limit c.1).0)
 
   input_fits : (c : Clause) → read_line depth bytes ≡ form (input c) → T (formed_clause depth c) × T (clause_fits c)
   unfolding formed_line within_limits
@@ -210,7 +236,7 @@ module _ {depth start : ℕ} {part : ℕ → List ℕ} {bytes : List ℕ} {held 
   -- an in line comes while there is no step
   unstepped : (c : Clause) → read_line depth bytes ≡ form (input c) → T (is_empty st.steps)
   unfolding read_failure line_failure ordered
-  unstepped c e = (zero_or (is_empty st.steps) _ 3 (λ h. omega arith) (sym (ap (read_failure st) e) ∙ passes)).0
+  unstepped c e = (passed_both (is_empty st.steps) _ Check.Order (sym (ap (read_failure st) e) ∙ passes)).0
 
   -- within 255
   small_byte : {n : ℕ} → n ≤ 32 → byte_of n ≡ n
@@ -222,14 +248,11 @@ module _ {depth start : ℕ} {part : ℕ → List ℕ} {bytes : List ℕ} {held 
   input_counted =
       rw (lt-ltb held.inputs office.lines (omega (arith, P.room, R.count, R.inputs, length-append st.inputs (map claim_of st.steps))))
 
-  -- What a line adds, and the state and the lists with it.
-  abbrev added : Reading → Added
-  added r = added_by start held.inputs (line_of st.symbols bytes r)
-
-  abbrev After : Reading → Type 0
-  After r =
-      Represents depth part (with_added held (added r)) (after st r)
-      × ((ls ws : List ℕ) → Sized st ls ws → Sized (after st r) (set ls held.clauses (added r).literals) (set ws held.clauses (added r).width))
+  -- With what a line adds: the state, and the two lists.
+  After : Reading → Option LineAt → Type 0
+  After r None = Unit
+  After r (Some l) = let added = added_by start held.inputs l in
+      Represents depth part (with_added held added) (after st r) × SizesAdded st (after st r) held.clauses added
 
   clause_after : (c : Clause) (st' : State) {inputs : ℕ} → drop (place_of bytes (from_clause c)) bytes ≡ from_clause c → T (formed_clause depth c) × T (clause_fits c) → clauses st' ≡ clauses st ++ (c ∷ []) →
       st'.symbols ≡ st.symbols → inputs ≡ length st'.inputs →
@@ -241,18 +264,24 @@ module _ {depth start : ℕ} {part : ℕ → List ℕ} {bytes : List ℕ} {held 
         λ ls ws S. sized_more st st' c e R.count P.room (small_byte w.0) (ap byte_of (tell_clause (width_told st.symbols) c) ∙ small_byte w.1) S,
       )
 
-  state_after_lem : (r : Reading) → read_line depth bytes ≡ r → After r
-  unfolding after line_of step_of with_added added_by clause_added advance read_failure clauses
-  state_after_lem no_form e = absurd (omega (arith, sym (ap (read_failure st) e) ∙ passes))
+  state_after_lem : (r : Reading) → read_line depth bytes ≡ r → After r (line_of st.symbols bytes r)
+  unfolding After after line_of step_of with_added SizesAdded added_by clause_added advance clauses
+  state_after_lem no_form e = tt
   state_after_lem (form (syntax.sym k)) e =
       let room = sym_fits k e in (
         rw (small_byte {n = k} (omega (arith, room.0))) (symbol_added k R (omega (arith, room.1, R.symbols))),
-        λ ls ws S. sized_same _ _ ls ws refl R.count S,
+        λ ls ws S. sized_same {st = st} refl S,
       )
   state_after_lem (form (input c)) e =
       clause_after c (advance st (input c)) (input_place depth bytes e) (input_fits c e) (input_clauses st c (unstepped c e)) refl (input_counted ∙ rw (R.inputs, length-append) refl)
   state_after_lem (form (by s)) e = clause_after s.claim (advance st (by s)) (claim_place depth bytes e) (step_fits s e) (step_clauses st s) refl R.inputs
 
-pub line_adds : (start inputs : ℕ) (l : LineAt) → Adds start inputs l (added_by start inputs l)
-unfolding Adds
-line_adds start inputs l depth part bytes held st R P i e passes = rw (i, e) (state_after_lem R P passes (read_line depth bytes) refl)
+  line_after : (l : LineAt) → line_of st.symbols bytes (read_line depth bytes) ≡ Some l → After (read_line depth bytes) (Some l)
+  line_after l e = subst (After (read_line depth bytes)) e (state_after_lem (read_line depth bytes) refl)
+
+line_adds : (start inputs : ℕ) (l : LineAt) → Adds start inputs l (added_by start inputs l)
+unfolding Adds After
+line_adds start inputs l depth part bytes held st R P i e passes = rw i (line_after R P passes l e)
+
+pub what_adds : (start inputs : ℕ) (l : LineAt) (r : Added) → r ≡ added_by start inputs l → Adds start inputs l r
+what_adds start inputs l r e = rw e (line_adds start inputs l)

@@ -66,7 +66,7 @@ module _ (table : List ℕ) where
 
   pub input_limits : (c : Clause) → line_fits (length c) (of_clause (bounds table) c) ≡ clause_fits c
   unfolding line_fits clause_fits
-  input_limits c = rw (leb_max (length c) (of_clause (bounds table) c).width 32, tell_clause (below_told table 32) c, clause_arguments c) (simp (← and_assoc, and_comm, and_swap))
+  input_limits c = rw (leb_max (length c) (of_clause (bounds table) c).width 32, tell_clause (below_told table 32) c, clause_arguments c) (simp (and_comm, and_swap))
 
   list_limits : (ts : Terms) → line_fits (count ts) (of_terms (bounds table) ts) ≡ list_fits ts
   unfolding line_fits list_fits

@@ -1,13 +1,14 @@
 -- The code's state and checks 2 to 6 on it, as the code computes them. Nothing here has to be believed: what it gives is said by
 -- Represents (`Sees`, `Adds`), in the definitions of State.
-use Rattle.std.specs.Prelude.{ℕ, ◌+◌, max, Bool, true, false, cond, ◌&&◌, List, leb, ltb, eqb, take, set, replicate}
+use Rattle.std.specs.Prelude.{ℕ, ◌+◌, max, Bool, cond, ◌&&◌, List, leb, ltb, eqb, take, set, replicate, Option, Some, None, Result, Ok, Err}
+use Rattle.logic.specs.declared.Check.{Check}
+use Rattle.logic.specs.StepChecks.{Checked, if_passed}
 use Rattle.reader.specs.declared.measures.Bounds.{Bounds}
 use Rattle.reader.specs.declared.forms.ItemAt.{ItemAt}
 use Rattle.reader.specs.declared.forms.StepAt.{StepAt}
 use Rattle.reader.specs.declared.forms.LineAt.{LineAt}
-use Rattle.reader.specs.declared.forms.LineAt.TheVariants.{NoForm, Sym, Input, By}
+use Rattle.reader.specs.declared.forms.LineAt.TheVariants.{Sym, Input, By}
 use Rattle.state.specs.declared.HeldState.{HeldState}
-use Rattle.state.specs.declared.Seen.{Seen}
 use Rattle.state.specs.declared.Added.{Added}
 use Rattle.text.specs.Read.{read_line}
 use Rattle.text.specs.Figures.{office, max_symbols, max_parts, max_arguments, max_literals}
@@ -34,8 +35,10 @@ unfoldable pub line_fits : ℕ → Bounds → Bool
 line_fits most b = leb (max most b.width) max_literals && leb b.arguments max_arguments
 
 -- Checks 4 to 6 of a line with a clause.
-unfoldable pub clause_failure : Bool → ℕ → Bounds → ℕ
-clause_failure ready most b = cond ready (cond (line_fits most b) (cond b.declared 0 6) 5) 4
+unfoldable pub clause_failure : Bool → ℕ → Bounds → Checked
+clause_failure ready most b =
+    cond ready
+    (cond (line_fits most b) (cond b.declared (Ok tt) (Err Check.Symbol)) (Err Check.Limit)) (Err Check.Constant)
 
 -- Of a step: the most entries or literals, and the bounds of its lists and its claim.
 unfoldable pub step_most : StepAt → ℕ
@@ -44,23 +47,26 @@ step_most s = max s.first.measure.count (max s.second.measure.count s.claim.meas
 unfoldable pub step_bounds : StepAt → Bounds
 step_bounds s = joined s.first.measure.bounds (joined s.second.measure.bounds s.claim.measure.bounds)
 
-unfoldable pub step_failure : Bool → StepAt → ℕ
+unfoldable pub step_failure : Bool → StepAt → Checked
 step_failure ready s = clause_failure ready (step_most s) (step_bounds s)
 
--- The number of the first of the checks 2 to 6 that fails, or 0.
-unfoldable pub failure_of : ℕ → ℕ → ℕ → Bool → LineAt → ℕ
-failure_of symbols clauses inputs ready NoForm = 2
-failure_of symbols clauses inputs ready (Sym k) = cond (eqb clauses 0) (cond (ltb symbols max_symbols && leb k max_parts) 0 5) 3
-failure_of symbols clauses inputs ready (Input c) =
-    cond (eqb clauses inputs) (clause_failure ready c.measure.count c.measure.bounds) 3
-failure_of symbols clauses inputs ready (By s) = step_failure ready s
+-- Checks 3 to 6 of a line, by what a state holds.
+unfoldable pub failure_of : HeldState → LineAt → Checked
+failure_of held (Sym k) =
+    cond (eqb held.clauses 0)
+    (cond (ltb held.symbols max_symbols && leb k max_parts) (Ok tt) (Err Check.Limit)) (Err Check.Order)
+failure_of held (Input c) =
+    cond (eqb held.clauses held.inputs)
+    (clause_failure (has_constant (held_table held)) c.measure.count c.measure.bounds) (Err Check.Order)
+failure_of held (By s) = step_failure (has_constant (held_table held)) s
 
--- Checks 2 to 6 of a line, by what a state holds.
-unfoldable pub seen_at : ℕ → List ℕ → ℕ → ℕ → ℕ → List ℕ → Seen
-seen_at depth counts symbols clauses inputs bytes =
-    let table = take symbols counts in
-    let l = line_of table bytes (read_line depth bytes) in
-    record { failure = failure_of symbols clauses inputs (has_constant table) l; line = l }
+-- Checks 2 to 6: a line that passes them, as it was read, or the first that fails.
+unfoldable pub passing : HeldState → Option LineAt → Result LineAt Check
+passing held None = Err Check.Form
+passing held (Some l) = if_passed (failure_of held l) l
+
+unfoldable pub seen_at : ℕ → HeldState → List ℕ → Result LineAt Check
+seen_at depth held bytes = passing held (line_of (held_table held) bytes (read_line depth bytes))
 
 -- A place of the text, within the office's bytes; a number within 255; one in line more, where there is room.
 unfoldable pub placed : ℕ → ℕ → ℕ
@@ -74,18 +80,11 @@ counted inputs = cond (ltb inputs office.lines) (inputs + 1) inputs
 
 -- What a line that passes adds: a symbol, or a clause.
 unfoldable pub clause_added : ℕ → ℕ → ItemAt → Added
-clause_added start inputs c = record {
-  symbol = false;
-  k = 0;
-  start = placed start c.start;
-  literals = byte_of c.measure.count;
-  width = byte_of c.measure.bounds.width;
-  inputs = inputs;
-}
+clause_added start inputs c =
+    Added.Clause (placed start c.start) (byte_of c.measure.count) (byte_of c.measure.bounds.width) inputs
 
 unfoldable pub added_by : ℕ → ℕ → LineAt → Added
-added_by start inputs NoForm = record { symbol = false; k = 0; start = 0; literals = 0; width = 0; inputs = inputs }
-added_by start inputs (Sym k) = record { symbol = true; k = byte_of k; start = 0; literals = 0; width = 0; inputs = inputs }
+added_by start inputs (Sym k) = Added.Symbol (byte_of k)
 added_by start inputs (Input c) = clause_added start (counted inputs) c
 added_by start inputs (By s) = clause_added start inputs s.claim
 
@@ -116,4 +115,5 @@ unfoldable pub clause_held : HeldState → ℕ → ℕ → HeldState
 clause_held st at inputs = cond (ltb st.clauses office.lines) (with_clause st at inputs) st
 
 unfoldable pub with_added : HeldState → Added → HeldState
-with_added st a = cond a.symbol (symbol_held st a.k) (clause_held st a.start a.inputs)
+with_added st (Added.Symbol k) = symbol_held st k
+with_added st (Added.Clause start literals width inputs) = clause_held st start inputs

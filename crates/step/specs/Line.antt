@@ -1,18 +1,36 @@
--- What `failing` promises in the definitions. Nothing here has to be believed: `check` promises the verdict of the definitions.
-use Rattle.std.specs.Prelude.{ℕ, ◌≤◌, List, ◌≡◌}
-use Rattle.text.specs.Figures.{office}
+-- What `checked` promises in the definitions. Nothing here has to be believed: `check` promises the verdict of the definitions.
+use Rattle.std.specs.Prelude.{ℕ, List, map, Result}
+use Rattle.logic.specs.declared.Check.{Check}
 use Rattle.text.specs.Read.{read_line}
-use Rattle.reader.specs.LineAt.{line_of}
+use Rattle.logic.specs.StepChecks.{Checked}
+use Rattle.reader.specs.declared.forms.StepAt.{StepAt}
+use Rattle.reader.specs.declared.forms.LineAt.{LineAt}
+use Rattle.rules.specs.Judging.{Judges}
+use Rattle.step.specs.Step.{parent_at}
 use Rattle.state.specs.declared.HeldState as code
-use Rattle.state.specs.declared.Seen.{Seen}
 use Rattle.state.specs.State.{State}
-use Rattle.state.specs.Failure.{read_failure}
-use Rattle.state.specs.Represents.{Represents, Sized}
+use Rattle.state.specs.Represents.{Represents, Sized, SeenAs}
 use Rattle.meaning.specs.Answer.{failure}
+use Rattle.descent.specs.declared.Held.{Held}
 
--- Of a line, with what checks 2 to 6 tell, where what is held represents a state: the first failing check of 2 to 11, or 0.
-unfoldable pub FirstFailing : ℕ → (ℕ → List ℕ) → List ℕ → List ℕ → List ℕ → ℕ → List ℕ → Seen → ℕ → Type 0
-FirstFailing depth part starts literals widths own line seen r =
-    (held : code.HeldState) (st : State) → Represents depth part held st → Sized st literals widths → starts ≡ held.starts →
-    own ≡ held.clauses → own ≤ office.lines → seen.failure ≡ read_failure st (read_line depth line) →
-    seen.line ≡ line_of st.symbols line (read_line depth line) → r ≡ failure st (read_line depth line)
+-- What is held of clauses is of those of a state: their numbers of literals and their widths.
+abbrev pub literals_of : List Held → List ℕ
+literals_of held = map (λ (c : Held). c.literals) held
+
+abbrev pub widths_of : List Held → List ℕ
+widths_of held = map (λ (c : Held). c.width) held
+
+abbrev pub SizesOf : State → List Held → Type 0
+SizesOf st held = Sized st (literals_of held) (widths_of held)
+
+-- What the answer to a step means, over the parents that it names (Judges).
+abbrev pub JudgedRight : ℕ → (ℕ → List ℕ) → code.HeldState → List Held → List ℕ → StepAt → Checked → Type 0
+JudgedRight depth part state held line s r =
+    Judges depth state.clauses (parent_at part state held s.a) (parent_at part state held s.b) line s r
+
+-- Of a line, where what is held represents a state: the line as the reader gives it, where it passes checks 2 to 11, or the first that it
+-- fails.
+unfoldable pub FirstFailing : ℕ → (ℕ → List ℕ) → code.HeldState → List Held → List ℕ → Result LineAt Check → Type 0
+FirstFailing depth part state held line r =
+    (st : State) → Represents depth part state st → SizesOf st held →
+    SeenAs st line (read_line depth line) (failure st (read_line depth line)) r

@@ -1,54 +1,49 @@
--- One line as the code judges it, by what is held of the clauses before it: their places, numbers of literals and widths, each a list by
--- clause number. Nothing here has to be believed: Line says what it gives, in the definitions.
-use Rattle.std.specs.Prelude.{ℕ, ◌-◌, cond, List, eqb, ltb, get_or}
-use Rattle.logic.specs.declared.Judged.{Judged}
-use Rattle.logic.specs.StepChecks.{judged_number}
+-- One line as the code judges it, by what is held of the clauses before it: their places, and beside them their numbers of literals and
+-- widths. Nothing here has to be believed: Line says what it gives, in the definitions.
+use Rattle.std.specs.Prelude.{ℕ, ◌-◌, cond, List, eqb, get_or, Result, Ok, Err}
+use Rattle.logic.specs.declared.Check.{Check}
+use Rattle.logic.specs.StepChecks.{Checked, if_passed}
 use Rattle.text.specs.declared.Figures.{Figures}
-use Rattle.text.specs.Figures.{office}
 use Rattle.text.specs.Split.{too_large}
 use Rattle.reader.specs.declared.forms.StepAt.{StepAt}
 use Rattle.reader.specs.declared.forms.LineAt.{LineAt}
-use Rattle.reader.specs.declared.forms.LineAt.TheVariants.{NoForm, Sym, Input, By}
-use Rattle.state.specs.declared.Seen.{Seen}
+use Rattle.reader.specs.declared.forms.LineAt.TheVariants.{Sym, Input, By}
+use Rattle.state.specs.declared.HeldState.{HeldState}
 use Rattle.state.specs.State.{has_constant}
-use Rattle.rules.specs.declared.steps.Size.{Size}
-use Rattle.rules.specs.Judging.{step_at}
+use Rattle.state.specs.ReadLine.{held_table, seen_at}
+use Rattle.rules.specs.Judging.{ParentAt, step_at}
 use Rattle.descent.specs.declared.Parents.{Parents}
-use Rattle.descent.specs.Walk.{parents_by}
+use Rattle.descent.specs.declared.Held.{Held}
+use Rattle.descent.specs.Walk.{no_parents, nothing_held, parents_by}
 
--- Where clause n is held, and its size.
-unfoldable pub slot_of : ℕ → ℕ
-slot_of n = cond (ltb n office.lines) n 0
+-- Clause n as a parent: what stands from it on, its number of literals and its width.
+unfoldable pub parent_at : (ℕ → List ℕ) → HeldState → List Held → ℕ → ParentAt
+parent_at part state held n =
+    let clause = get_or held n nothing_held in
+    record { clause = part (get_or state.starts n 0); literals = clause.literals; width = clause.width }
 
-abbrev pub size_at : List ℕ → List ℕ → ℕ → Size
-size_at literals widths n = record { literals = get_or literals (slot_of n) 0; width = get_or widths (slot_of n) 0 }
+-- Checks 7 to 11 of a step, over its parents.
+unfoldable pub judged_at : ℕ → (ℕ → List ℕ) → HeldState → List Held → List ℕ → StepAt → Checked
+judged_at depth part state held line s =
+    step_at depth state.clauses (parent_at part state held s.a) (parent_at part state held s.b) line s
 
--- What stands from it on.
-unfoldable pub clause_at : (ℕ → List ℕ) → List ℕ → ℕ → List ℕ
-clause_at part starts n = part (get_or starts (slot_of n) 0)
+-- Checks 7 to 11 of a line: only a step can fail them.
+unfoldable pub line_judged : ℕ → (ℕ → List ℕ) → HeldState → List Held → List ℕ → LineAt → Checked
+line_judged depth part state held line (Sym k) = Ok tt
+line_judged depth part state held line (Input c) = Ok tt
+line_judged depth part state held line (By s) = judged_at depth part state held line s
 
--- Checks 7 to 11 of a step.
-unfoldable pub judged_at : ℕ → (ℕ → List ℕ) → List ℕ → List ℕ → List ℕ → ℕ → List ℕ → StepAt → Judged
-judged_at depth part starts literals widths own line s =
-    step_at depth own (clause_at part starts s.a) (size_at literals widths s.a) (clause_at part starts s.b) (size_at literals widths s.b) line s
+-- They are asked of a line that passes checks 2 to 6.
+unfoldable pub then_judged : ℕ → (ℕ → List ℕ) → HeldState → List Held → List ℕ → Result LineAt Check → Result LineAt Check
+then_judged depth part state held line (Ok l) = if_passed (line_judged depth part state held line l) l
+then_judged depth part state held line (Err c) = Err c
 
-unfoldable pub step_number : ℕ → (ℕ → List ℕ) → List ℕ → List ℕ → List ℕ → ℕ → List ℕ → LineAt → ℕ
-step_number depth part starts literals widths own line NoForm = 0
-step_number depth part starts literals widths own line (Sym k) = 0
-step_number depth part starts literals widths own line (Input c) = 0
-step_number depth part starts literals widths own line (By s) = judged_number (judged_at depth part starts literals widths own line s)
+-- A line as it was read, if it passes checks 2 to 11, or the first that it fails.
+unfoldable pub checked_at : ℕ → (ℕ → List ℕ) → HeldState → List Held → List ℕ → Result LineAt Check
+checked_at depth part state held line = then_judged depth part state held line (seen_at depth state line)
 
--- Checks 2 to 6 come before.
-unfoldable pub failing_at : ℕ → (ℕ → List ℕ) → List ℕ → List ℕ → List ℕ → ℕ → List ℕ → Seen → ℕ
-failing_at depth part starts literals widths own line seen =
-    cond (eqb seen.failure 0) (step_number depth part starts literals widths own line seen.line) seen.failure
-
--- The parents that a line uses: the number of lines, which no clause has, for none.
-abbrev pub no_parents : Parents
-no_parents = record { a = office.lines; b = office.lines }
-
+-- The parents that a line uses: of a step those that its rule uses, of another line none.
 unfoldable pub parents_at : LineAt → Parents
-parents_at NoForm = no_parents
 parents_at (Sym k) = no_parents
 parents_at (Input c) = no_parents
 parents_at (By s) = parents_by s.rule s.a s.b
@@ -58,6 +53,8 @@ unfoldable pub left_of : Figures → ℕ → ℕ → Figures
 left_of F bytes lines = record { bytes = F.bytes - bytes; lines = F.lines - lines; depth = F.depth }
 
 -- Where the base ends and the job begins: check 4 of the base, and check 1 of the two. Nothing fails at other places.
-unfoldable pub seam_failure : Figures → List ℕ → ℕ → ℕ → ℕ → List ℕ → ℕ
-seam_failure F table base at lines job =
-    cond (eqb at base) (cond (has_constant table) (cond (too_large (left_of F base lines) job) 1 0) 4) 0
+unfoldable pub seam_failure : Figures → HeldState → ℕ → ℕ → ℕ → List ℕ → Checked
+seam_failure F state base at lines job =
+    cond (eqb at base)
+    (cond (has_constant (held_table state))
+    (cond (too_large (left_of F base lines) job) (Err Check.Size) (Ok tt)) (Err Check.Constant)) (Ok tt)

@@ -2,173 +2,114 @@
 // the job begins.
 #![tactic(auto)]
 
-ghost use Rattle.std.specs.Prelude.{◌-◌, ◌≡◌, take};
-ghost use Rattle.logic.specs.StepChecks.{judged_number};
+ghost use Rattle.std.specs.Prelude.{◌≡◌};
 ghost use Rattle.text.specs.Size.{part_at};
-ghost use Rattle.step.specs.Step.{slot_of, size_at, clause_at, judged_at, failing_at, parents_at, seam_failure};
-ghost use Rattle.step.specs.Line.{FirstFailing};
+ghost use Rattle.rules.specs.Judging.{parent_of};
+ghost use Rattle.step.specs.Step.{parent_at, judged_at, checked_at, parents_at, seam_failure};
+ghost use Rattle.step.specs.Line.{JudgedRight, FirstFailing};
 
-use descent::{Parents, used_parents};
-use logic::Judged;
+use descent::{Held, Parents, used_parents};
+use logic::Check;
 use reader::forms::{LineAt, StepAt};
-use rules::steps::{Size, judge};
+use rules::steps::{Parent, judge};
 use source::{part_at, too_large};
-use state::{Seen, constant_held};
+use state::HeldState;
 use text::{Figures, LINES};
 
-// Where clause n is held; the first place where there is no room for it.
-fn slot(n: usize) -> usize
-    ensures { result ≡ slot_of n }
+// Clause n as a parent: the part of the text that begins with it, its number of literals and its width.
+#[tactic(auto, unfolding(crate::specs::Step::parent_at))]
+fn parent<'a>(
+    base: &'a [u8],
+    job: &'a [u8],
+    state: &HeldState,
+    held: &[Held; LINES],
+    n: usize,
+) -> Parent<'a>
+    ensures { parent_of result ≡ parent_at (part_at base.now job.now) state.now held.now n }
 {
-    if n < LINES { n } else { 0 }
-}
-
-// The number of the check of 7 to 11 that fails, or 0.
-fn number(j: Judged) -> usize
-    ensures { result ≡ judged_number j }
-{
-    match j {
-        Judged::Passed => 0,
-        Judged::NoParent => 7,
-        Judged::WrongNumber => 8,
-        Judged::Misshapen => 9,
-        Judged::Disagrees => 10,
-        Judged::WrongClaim => 11,
+    let start = state.starts.get(n).copied().unwrap_or(0);
+    let clause = held.get(n).copied().unwrap_or(Held::NONE);
+    Parent {
+        clause: part_at(base, job, usize::from(start)),
+        literals: usize::from(clause.literals),
+        width: usize::from(clause.width),
     }
 }
 
-// What is held of a clause: its place, and its number of literals and width.
-fn place(start: u16) -> usize
-    ensures { result ≡ start }
-{
-    start as usize
-}
-
-fn size(literals: u8, width: u8) -> Size
-    ensures { result ≡ record { literals = literals; width = width } }
-{
-    Size {
-        literals: literals as usize,
-        width: width as usize,
-    }
-}
-
-// What stands from clause n on.
-fn clause_at<'a>(base: &'a [u8], job: &'a [u8], starts: &[u16; LINES], n: usize) -> &'a [u8]
-    ensures { result.now ≡ clause_at (part_at base.now job.now) starts.now n }
-{
-    let at = slot(n);
-    part_at(base, job, place(starts[at]))
-}
-
-// Its number of literals and its width.
-fn size_at(literals: &[u8; LINES], widths: &[u8; LINES], n: usize) -> Size
-    ensures { result ≡ size_at literals.now widths.now n }
-{
-    let at = slot(n);
-    size(literals[at], widths[at])
-}
-
-// Checks 7 to 11 of a step, by what is held of its parents: their places, numbers of literals and widths.
+// Checks 7 to 11 of a step, over its parents.
+#[tactic(auto, unfolding(crate::specs::Step::judged_at))]
 fn judged<'a>(
     depth: u8,
     base: &'a [u8],
     job: &'a [u8],
-    starts: &[u16; LINES],
-    literals: &[u8; LINES],
-    widths: &[u8; LINES],
-    own: usize,
+    state: &HeldState,
+    held: &[Held; LINES],
     line: &[u8],
     step: StepAt,
-) -> Judged
-    ensures { result ≡ judged_at depth (part_at base.now job.now) starts.now literals.now
-        widths.now own line.now step }
+) -> Result<(), Check>
+    ensures value { result ≡ judged_at depth (part_at base.now job.now) state.now held.now line.now step }
+    ensures judges { JudgedRight depth (part_at base.now job.now) state.now held.now line.now step result }
 {
-    let p = clause_at(base, job, starts, step.a);
-    let q = clause_at(base, job, starts, step.b);
-    let of_a = size_at(literals, widths, step.a);
-    let of_b = size_at(literals, widths, step.b);
-    judge(depth, own, p, of_a, q, of_b, line, step)
+    let a = parent(base, job, state, held, step.a);
+    let b = parent(base, job, state, held, step.b);
+    judge(depth, state.clauses, a, b, line, step)
 }
 
-// The first failing check of 2 to 11 of a line, or 0: a step, whose own number is given, is judged by the clauses before it.
-pub fn failing<'a>(
+// Checks 2 to 11 of the next line, without its line end: the line as it was read, or the first check that it fails. A step is judged by the
+// clauses before it.
+#[tactic(auto, unfolding(crate::specs::Step::checked_at, crate::specs::Step::then_judged, crate::specs::Step::line_judged))]
+pub fn checked<'a>(
     depth: u8,
     base: &'a [u8],
     job: &'a [u8],
-    starts: &[u16; LINES],
-    literals: &[u8; LINES],
-    widths: &[u8; LINES],
-    own: usize,
+    state: &HeldState,
+    held: &[Held; LINES],
     line: &[u8],
-    seen: Seen,
-) -> usize
-    ensures value { result ≡ failing_at depth (part_at base.now job.now) starts.now literals.now
-        widths.now own line.now seen }
-    ensures first_failing { FirstFailing depth (part_at base.now job.now) starts.now literals.now
-        widths.now own line.now seen result }
+) -> Result<LineAt, Check>
+    ensures value { result ≡ checked_at depth (part_at base.now job.now) state.now held.now line.now }
+    ensures first_failing { FirstFailing depth (part_at base.now job.now) state.now held.now line.now result }
     ensures base_unchanged { (base.exit.now ≡ base.entry.now) × (job.exit.now ≡ job.entry.now) × (line.exit.now ≡ line.entry.now) }
 {
-    let failure = seen.failure;
-    if failure != 0 {
-        return failure;
+    let read = state.see(depth, line)?;
+    if let LineAt::By(step) = read {
+        judged(depth, base, job, state, held, line, step)?;
     }
-    let l = seen.line;
-    match l {
-        LineAt::NoForm => 0,
-        LineAt::Sym(_) => 0,
-        LineAt::Input(_) => 0,
-        LineAt::By(s) => number(judged(depth, base, job, starts, literals, widths, own, line, s)),
-    }
+    Ok(read)
 }
 
 // The numbers of the parents that a line uses: of a step those that its rule uses, of another line none.
-pub fn parents(l: LineAt) -> Parents
-    ensures { result ≡ parents_at l }
+#[tactic(auto, unfolding(crate::specs::Step::parents_at))]
+pub fn parents(line: LineAt) -> Parents
+    ensures { result ≡ parents_at line }
 {
-    let none = LINES as u16;
-    match l {
-        LineAt::NoForm => Parents { a: none, b: none },
-        LineAt::Sym(_) => Parents { a: none, b: none },
-        LineAt::Input(_) => Parents { a: none, b: none },
-        LineAt::By(s) => {
-            let rule = s.rule;
-            used_parents(rule, s.a, s.b)
-        }
+    match line {
+        LineAt::Sym(_) | LineAt::Input(_) => Parents::NONE,
+        LineAt::By(step) => used_parents(step.rule, step.a, step.b),
     }
 }
 
-// What is left of a figure.
-fn left(figure: usize, used: usize) -> usize
-    ensures { result ≡ figure - used }
-{
-    if used < figure { figure - used } else { 0 }
-}
-
-// What fails at a place, so many lines after the beginning, where the base ends and the job begins: 4 where the base has no constant, 1
-// where the two are too large together, or 0. Nothing fails at other places.
+// What fails at a place, so many lines after the beginning, where the base ends and the job begins: the check for a constant, where the
+// base has none, or that of the size, where the two are too large together. Nothing fails at other places.
+#[tactic(auto, unfolding(crate::specs::Step::seam_failure, crate::specs::Step::left_of))]
 pub fn seam(
     figures: Figures,
-    counts: &[u8],
-    symbols: usize,
+    state: &HeldState,
     base: usize,
     at: usize,
     lines: usize,
     job: &[u8],
-) -> usize
-    ensures value { result ≡ seam_failure figures (take symbols counts.now) base at lines job.now }
-    ensures counts_unchanged { (counts.exit.now ≡ counts.entry.now) × (job.exit.now ≡ job.entry.now) }
+) -> Result<(), Check>
+    ensures value { result ≡ seam_failure figures state.now base at lines job.now }
+    ensures state_unchanged { (state.exit.now ≡ state.entry.now) × (job.exit.now ≡ job.entry.now) }
 {
     if at != base {
-        return 0;
+        return Ok(());
     }
-    if !constant_held(counts, symbols) {
-        return 4;
-    }
+    Check::Constant.passed_if(state.has_constant())?;
     let rest = Figures {
-        bytes: left(figures.bytes, base),
-        lines: left(figures.lines, lines),
+        bytes: figures.bytes.saturating_sub(base),
+        lines: figures.lines.saturating_sub(lines),
         depth: figures.depth,
     };
-    if too_large(job, rest) { 1 } else { 0 }
+    Check::Size.passed_if(!too_large(job, rest))
 }

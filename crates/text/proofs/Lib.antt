@@ -20,5 +20,4 @@ pub mod Trees
 pub mod Nesting
 pub mod Heads
 pub mod Chain
-pub mod Occurrences
 pub mod Sizes

@@ -13,8 +13,8 @@ use Rattle.logic.specs.Syntax.{Term, var as variable, app, Terms, nil, cons, Lit
 use Rattle.logic.specs.Terms.{count, entry_or}
 use Rattle.text.specs.Write.{Writer, word, put_term, put_terms, put_arguments, put_literal, put_literals}
 use Rattle.text.specs.Read.{Parsed, bad, got, strip}
-use Rattle.text.specs.Places.{end_of}
-use Rattle.text.specs.Access.{closing, skip_item, pass_item, to_item, opening, to_argument, places, entry_of}
+use Rattle.text.proofs.Places.{end_of, places, entry_of}
+use Rattle.text.specs.Access.{closing, skip_item, pass_item, to_item, opening, to_argument}
 use Rattle.text.proofs.Tests.{T_and}
 use Rattle.text.proofs.Positions.{pass_tail, landed}
 use Rattle.text.proofs.Plain.{Plain, number_plain, term_plain, in_front}

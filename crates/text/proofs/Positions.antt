@@ -1,55 +1,20 @@
 -- Positions in a text: the bytes from a place on, and the place where they begin.
 use Prim.Native.Nat.{ℕ, zero, suc, ◌+◌, ◌-◌, ◌≤◌, ◌<◌}
-use mathlib.Core.Path.{◌≡◌, refl, sym, ◌∙◌, ap}
+use mathlib.Core.Path.{◌≡◌, refl, sym}
 use mathlib.Core.List.{List, [], ◌∷◌, ◌++◌}
 use native.Mathlib.Omega.{arith}
-use lib.ListN.{length, take, drop, get_or, set, replicate, length-drop, length-append, drop_of_length-le, get_or-eq_default}
-use lib.Seq.{drop-drop, drop_at, drop-length, take-suc-set, append_snoc}
+use lib.ListN.{length, take, drop, get_or, replicate, length-drop, length-append, drop_of_length-le, get_or-eq_default}
+use lib.Seq.{drop-drop, drop_at, drop-length}
 use native.Mathlib.Decide.{dec_le}
-use borrow.Author.Tests.{ne_eqb, lt-ltb, le-ltb, le-leb, lt-leb}
+use borrow.Author.Tests.{lt-ltb, le-ltb, le-leb, lt-leb}
 use lib.Dec.{eqb}
 use Rattle.text.specs.Read.{Parsed, bad, got, Reader, and_then, ◌>>◌, strip}
-use Rattle.text.specs.Places.{end_of}
-use Rattle.text.specs.Access.{closing, skip_item, pass_item, to_item, opening, to_argument, places, entry_of}
-use Rattle.text.proofs.Places.{at_byte}
+use Rattle.text.proofs.Places.{end_of, places, entry_of}
+use Rattle.text.specs.Access.{closing, skip_item, pass_item, to_item}
 use Rattle.text.proofs.Tests.{on_test}
 use Rattle.text.proofs.Gives.{Gives, nothing, gives, given, weaken, bind, strip_gives, Sound}
 use Rattle.text.proofs.Plain.{Plain}
 use Rattle.text.specs.Write.{Writer}
-
--- The item's first byte.
-pub skip_none : (s : List ℕ) (at : ℕ) → length s ≤ at → skip_item (drop at s) ≡ bad
-unfolding skip_item strip
-skip_none s at h = rw (drop_of_length-le s h)
-
-pub skip_other : (s : List ℕ) (at : ℕ) → at < length s → (get_or s at 0 ≡ 40 → ⊥) → skip_item (drop at s) ≡ bad
-unfolding skip_item strip
-skip_other s at h n = rw (at_byte s at h, ne_eqb 40 (get_or s at 0) (λ e. n (sym e)))
-
-pub skip_begins : (s : List ℕ) (at : ℕ) → at < length s → get_or s at 0 ≡ 40 → skip_item (drop at s) ≡ closing 0 (drop (at + 1) s)
-unfolding skip_item strip
-skip_begins s at h e = rw (at_byte s at h, e)
-
--- One byte of a walk to the closing bracket.
-pub closing_none : (s : List ℕ) (i n : ℕ) → length s ≤ i → closing n (drop i s) ≡ bad
-unfolding closing
-closing_none s i n h = rw (drop_of_length-le s h)
-
-pub closing_deeper : (s : List ℕ) (i n : ℕ) → i < length s → get_or s i 0 ≡ 40 → closing n (drop i s) ≡ closing (n + 1) (drop (i + 1) s)
-unfolding closing
-closing_deeper s i n h e = rw (at_byte s i h, e)
-
-pub closing_closed : (s : List ℕ) (i n : ℕ) → i < length s → get_or s i 0 ≡ 41 → n ≡ 0 → closing n (drop i s) ≡ got tt (drop (i + 1) s)
-unfolding closing
-closing_closed s i n h e z = rw (at_byte s i h, e, z)
-
-pub closing_outer : (s : List ℕ) (i n : ℕ) → i < length s → get_or s i 0 ≡ 41 → (n ≡ 0 → ⊥) → closing n (drop i s) ≡ closing (n - 1) (drop (i + 1) s)
-unfolding closing
-closing_outer s i n h e z = rw (at_byte s i h, e, ne_eqb n 0 z)
-
-pub closing_on : (s : List ℕ) (i n : ℕ) → i < length s → (get_or s i 0 ≡ 40 → ⊥) → (get_or s i 0 ≡ 41 → ⊥) → closing n (drop i s) ≡ closing n (drop (i + 1) s)
-unfolding closing
-closing_on s i n h e f = rw (at_byte s i h, ne_eqb (get_or s i 0) 40 e, ne_eqb (get_or s i 0) 41 f)
 
 -- What is left after reading is the end of the bytes read from.
 pub record End (bs rest : List ℕ) : Type 0 where
@@ -133,89 +98,11 @@ pub pass_end : (s : List ℕ) (at : ℕ) → end_of s (pass_item (drop at s)) �
 unfolding pass_item skip_item strip
 pass_end s at = then_end s at (strip_tail (32 ∷ [])) skip_item refl
 
-item_empty : (n : ℕ) → to_item n [] ≡ bad
-unfolding to_item pass_item strip
-item_empty zero = refl
-item_empty (suc n) = refl
-
-pub item_first : (bs : List ℕ) (n : ℕ) → n ≤ 0 → to_item n bs ≡ strip (32 ∷ []) bs
-unfolding to_item
-item_first bs zero h = refl
-item_first bs (suc n) h = absurd (omega arith)
-
-pub item_later : (s : List ℕ) (at n : ℕ) → 0 < n → end_of s (to_item n (drop at s)) ≡ end_of s (to_item (n - 1) (drop (end_of s (pass_item (drop at s))) s))
-unfolding to_item
-item_later s at zero h = absurd (omega arith)
-item_later s at (suc n) h = let e : suc n - 1 ≡ n = omega arith in then_end s at pass_tail (to_item n) (item_empty n) ∙ rw e
-
-pub argument_first : (s : List ℕ) (at n : ℕ) → n ≡ 0 → end_of s (to_argument n (drop at s)) ≡ end_of s (opening (drop (end_of s (strip (40 ∷ []) (drop at s))) s))
-unfolding to_argument opening
-argument_first s at n z = rw z (then_end s at (strip_tail (40 ∷ [])) opening refl)
-
-pub argument_later : (s : List ℕ) (at n : ℕ) → (n ≡ 0 → ⊥) → end_of s (to_argument n (drop at s)) ≡ end_of s (to_item (n - 1) (drop (end_of s (skip_item (drop (end_of s (strip (40 ∷ []) (drop at s))) s))) s))
-unfolding to_argument skip_item strip
-argument_later s at zero h = absurd (h refl)
-argument_later s at (suc n) h =
-    let e : suc n - 1 ≡ n = omega arith in
-    then_end s at (and_tail (strip_tail (40 ∷ [])) skip_tail) (to_item n) (item_empty n) ∙ rw (then_end s at (strip_tail (40 ∷ [])) skip_item refl, e)
-
-pub opening_none : (s : List ℕ) (at : ℕ) → length s ≤ at → opening (drop at s) ≡ bad
-unfolding opening
-opening_none s at h = rw (drop_of_length-le s h)
-
-pub opening_here : (s : List ℕ) (at : ℕ) → at < length s → get_or s at 0 ≡ 40 → opening (drop at s) ≡ got tt (drop at s)
-unfolding opening
-opening_here s at h e = rw (at_byte s at h, e)
-
-pub opening_other : (s : List ℕ) (at : ℕ) → at < length s → (get_or s at 0 ≡ 40 → ⊥) → opening (drop at s) ≡ bad
-unfolding opening
-opening_other s at h e = rw (at_byte s at h, ne_eqb (get_or s at 0) 40 e)
-
-pub places_next : (s : List ℕ) (at n : ℕ) → 0 < n → places s n at ≡ at ∷ places s (n - 1) (end_of s (pass_item (drop at s)))
-unfolding places
-places_next s at zero h = absurd (omega arith)
-places_next s at (suc n) h = let e : suc n - 1 ≡ n = omega arith in rw e
-
-pub places_zero : (s : List ℕ) (at n : ℕ) → n ≤ 0 → places s n at ≡ []
-unfolding places
-places_zero s at zero h = refl
-places_zero s at (suc n) h = absurd (omega arith)
-
 -- Past the end there are no more items.
 pub places_past : (s : List ℕ) (n : ℕ) → places s n (length s + 1) ≡ replicate n (length s + 1)
 unfolding places pass_item strip end_of
 places_past s zero = refl
 places_past s (suc n) = let l : length s ≤ length s + 1 = omega arith in rw (drop_of_length-le s l, places_past s n)
-
-pub replicate_fewer : (n e : ℕ) → drop 1 (replicate n e) ≡ replicate (n - 1) e
-replicate_fewer zero e = refl
-replicate_fewer (suc n) e = let k : suc n - 1 ≡ n = omega arith in rw k
-
--- The array after one store more.
-pub places_more : (s found : List ℕ) (at n : ℕ) → length found ≡ 33 → n < 32 → let p = end_of s (pass_item (drop at s)) in take (n + 1 + 1) (set found (n + 1) p) ++ places s (32 - (n + 1)) (end_of s (pass_item (drop p s))) ≡ take (n + 1) found ++ places s (32 - n) p
-places_more s found at n l h =
-    let p = end_of s (pass_item (drop at s)) in
-    let e : 32 - n - 1 ≡ 32 - (n + 1) = omega arith in
-    let f : n + 1 + 1 ≡ suc (n + 1) = omega arith in
-    rw (places_next s p (32 - n) (omega arith), e, f, take-suc-set found (n + 1) p (omega arith), append_snoc)
-
--- A place within the text is where the rest stands; a place past its end says that nothing was read.
-module _ {A : Type 0} (s : List ℕ) (at : ℕ) {read : Reader A} (t : Tail read) where
-  pub missing : length s < end_of s (read (drop at s)) → read (drop at s) ≡ bad
-  unfolding end_of
-  missing h = go (t.tail (drop at s)) h
-    where
-      go : {x : Parsed A} → Gives (λ _ rest. End (drop at s) rest) x → length s < end_of s x → x ≡ bad
-      go nothing h = refl
-      go (gives e) h = absurd (omega arith)
-
-  pub there : end_of s (read (drop at s)) ≤ length s → (a : A) × (read (drop at s) ≡ got a (drop (end_of s (read (drop at s))) s))
-  unfolding end_of
-  there h = go (t.tail (drop at s)) h
-    where
-      go : {x : Parsed A} → Gives (λ _ rest. End (drop at s) rest) x → end_of s x ≤ length s → (a : A) × (x ≡ got a (drop (end_of s x) s))
-      go nothing h = absurd (omega arith)
-      go (gives {a} {rest} e) h = (a, ap (got a) (sym (end_drop s at rest e)))
 
 -- A walk that finds its end: the place is within the text, and the rest stands there.
 pub landed : {A : Type 0} (s : List ℕ) (at : ℕ) {read : Reader A} {a : A} {rest : List ℕ} → Tail read → read (drop at s) ≡ got a rest → (end_of s (read (drop at s)) ≤ length s) × (drop (end_of s (read (drop at s))) s ≡ rest)
@@ -240,11 +127,3 @@ module _ (s starts : List ℕ) (n : ℕ) where
     pub entry_here : get_or starts (n + 1) 0 ≤ length s → take (get_or starts (n + 1) 0 - (get_or starts n 0 + 1)) (drop (get_or starts n 0 + 1) s) ≡ entry_of s starts n
     unfolding entry_of
     entry_here l = rw (lt-ltb _ _ h, le-leb _ _ l)
-
--- A word that stands at a place, and one that does not.
-module _ (s : List ℕ) (at : ℕ) (w : List ℕ) {e : ℕ} (h : e ≡ end_of s (strip w (drop at s))) where
-  pub word_there : e ≤ length s → strip w (drop at s) ≡ got tt (drop e s)
-  word_there l = (there s at (strip_tail w) (rw (← h) l)).1 ∙ rw h
-
-  pub word_missing : length s < e → strip w (drop at s) ≡ bad
-  word_missing l = missing s at (strip_tail w) (rw (← h) l)

@@ -1,5 +1,5 @@
 -- Where reading stops: the bytes after a value are the end of the bytes read from, and a list is read by its first step.
-use Prim.Native.Nat.{ℕ, ◌-◌}
+use Prim.Native.Nat.{ℕ}
 use mathlib.Core.Path.{◌≡◌}
 use mathlib.Core.List.{List, [], ◌∷◌}
 use Rattle.logic.specs.Syntax.{nil, cons}

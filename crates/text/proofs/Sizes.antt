@@ -82,18 +82,6 @@ module _ (text : List ℕ) (i : ℕ) where
   unfolding line_end_count
   ends_over h = rw (past text i h)
 
-  pub length_here : i < length text → get_or text i 0 ≡ 10 → line_length (drop i text) ≡ 0
-  unfolding line_length
-  length_here h e = rw (at_byte text i h, eq-eqb (get_or text i 0) line_end e)
-
-  pub length_further : i < length text → (get_or text i 0 ≡ 10 → ⊥) → line_length (drop i text) ≡ suc (line_length (drop (i + 1) text))
-  unfolding line_length
-  length_further h e = rw (at_byte text i h, ne_eqb (get_or text i 0) line_end e)
-
-  pub length_over : length text ≤ i → line_length (drop i text) ≡ 0
-  unfolding line_length
-  length_over h = rw (past text i h)
-
 -- The line end that is found ends the first line of the bytes left: `split` begins with the bytes before it.
 line_front : (bs : List ℕ) → T (unbroken (take (line_length bs) bs))
 unfolding line_length

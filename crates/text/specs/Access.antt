@@ -1,7 +1,6 @@
 -- Nothing in this file has to be believed: the parts of a clause in its bytes, what stands in brackets, one item after another.
 -- `clause_item`, `argument_item` and `let_entry` (proofs/Nesting) say what is found in what the writer puts.
-use Rattle.std.specs.Prelude.{ℕ, zero, suc, ◌+◌, ◌-◌, Bool, true, false, cond, ◌&&◌, ◌||◌, List, [], ◌∷◌, eqb, ltb, leb, length, take, drop, get_or}
-use Rattle.text.specs.Places.{end_of}
+use Rattle.std.specs.Prelude.{ℕ, zero, suc, ◌+◌, ◌-◌, Bool, true, false, cond, ◌||◌, List, [], ◌∷◌, eqb}
 use Rattle.text.specs.Read.{Parsed, bad, got, Reader, ◌>>◌, skip}
 
 -- Up to the bracket that closes the item, with n brackets open inside it.
@@ -34,18 +33,6 @@ opening (b ∷ bs) = cond (eqb b 40) (got tt (b ∷ bs)) bad
 unfoldable pub to_argument : ℕ → Reader (Unit {0})
 to_argument zero = skip "(" >> opening
 to_argument (suc n) = skip "(" >> skip_item >> to_item n
-
--- A place in s and the places past the items that follow, so many in all; past the end of s where there is none.
-unfoldable pub places : List ℕ → ℕ → ℕ → List ℕ
-places s zero at = []
-places s (suc n) at = at ∷ places s n (end_of s (pass_item (drop at s)))
-
--- R2, "variable N of A becomes term N of the first list": the bytes of entry n, between the places of two neighbours.
-unfoldable pub entry_of : List ℕ → List ℕ → ℕ → List ℕ
-entry_of s starts n =
-    let from = get_or starts n 0 in
-    let to = get_or starts (n + 1) 0 in
-    cond (ltb from to && leb to (length s)) (take (to - (from + 1)) (drop (from + 1) s)) []
 
 unfoldable pub stood : Parsed (Unit {0}) → Bool
 stood bad = false

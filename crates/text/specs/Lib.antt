@@ -5,7 +5,7 @@ pub mod Figures
 pub mod Split
 -- What is computed, and what mirrors the code on bytes: nothing in these has to be believed.
 pub mod Read
-pub mod Places
+pub mod Answers
 pub mod Size
 pub mod Heads
 pub mod Kinds

@@ -2,20 +2,28 @@
 // counted.
 #![tactic(auto)]
 
-ghost use Rattle.std.specs.Prelude.{◌+◌, ◌≤◌, min, ◌≡◌, false, []};
+ghost use Rattle.std.specs.Prelude.{◌+◌, ◌≤◌, ◌<◌, min, ◌≡◌, false, [], length, Ok};
 ghost use Rattle.text.specs.Figures.{office, UpToOffice};
+ghost use Rattle.text.specs.Size.{part_at};
+ghost use Rattle.state.specs.ReadLine.{added_by, with_added};
+ghost use Rattle.state.specs.Represents.{Adds};
+ghost use Rattle.step.specs.Step.{seam_failure, checked_at, parents_at};
+ghost use Rattle.step.specs.Line.{FirstFailing};
 ghost use Rattle.meaning.specs.Checks.{too_large};
 ghost use Rattle.meaning.specs.Means.{Means, named};
 ghost use Rattle.meaning.specs.Answer.{verdict, rests, jointly};
 ghost use Rattle.meaning.specs.Guarantee.{Guarantee};
 ghost use Rattle.meaning.specs.Job.{JobMeans, JobGuarantee};
-ghost use Rattle.verdict.specs.Running.{Answers, StopsAt};
+ghost use Rattle.verdict.specs.Running.{Answers, StopsAt, line_ahead, next_at, held_with};
 
+use descent::{Held, Parents};
+use logic::Check;
 use meaning::{Answer, Verdict};
 use outcome::{finish, first_empty};
+use reader::forms::LineAt;
 use source::{first_line, part_at, too_large};
-use state::{HeldState, adds, constant_held, fresh, see, with_clause, with_symbol};
-use step::{failing, parents, seam};
+use state::{Added, HeldState, adds};
+use step::{checked, parents, seam};
 use text::{BYTES, DEPTH, Figures, LINES};
 
 // Where a reading stopped: the verdict, the state after the lines that passed, and how far they reach: the place of the line that failed.
@@ -39,14 +47,63 @@ fn reach(base: usize, job: usize) -> usize
     requires { base ≤ office.bytes }
     ensures { result ≡ base + min job (office.bytes + 1) }
 {
-    if job > BYTES {
-        return base + BYTES + 1;
+    base + job.min(BYTES + 1)
+}
+
+// The line that begins at `at`, after so many lines, and how many bytes it is with its line end; or the refusal, if it fails, or if what is
+// asked before it fails, where the base ends and the job begins.
+#[tactic(auto, unfolding(crate::specs::Running::next_at, crate::specs::Running::told))]
+fn next_line<'a>(
+    base: &'a [u8],
+    job: &'a [u8],
+    figures: Figures,
+    state: &HeldState,
+    held: &[Held; LINES],
+    at: usize,
+    lines: usize,
+) -> Result<(LineAt, usize), Verdict>
+    requires { lines ≤ office.lines }
+    ensures value { result ≡ next_at figures base.now job.now state.now held.now at lines }
+    ensures first_failing { seam_failure figures state.now (length base.now) at lines job.now ≡ Ok tt →
+        FirstFailing figures.depth (part_at base.now job.now) state.now held.now (line_ahead base.now job.now at)
+        (checked_at figures.depth (part_at base.now job.now) state.now held.now (line_ahead base.now job.now at)) }
+{
+    seam(figures, state, base.len(), at, lines, job).map_err(|check| Verdict::Refused {
+        check,
+        line: 0,
+    })?;
+    let bytes = first_line(part_at(base, job, at));
+    let line = checked(figures.depth, base, job, state, held, bytes).map_err(
+        |check| Verdict::Refused {
+            check,
+            line: lines + 1,
+        },
+    )?;
+    Ok((line, bytes.len() + 1))
+}
+
+// Holds what a line adds, besides its place, for clause n, if it has a clause; the parents that its step uses are given.
+#[tactic(auto, unfolding(crate::specs::Running::held_with))]
+fn hold(held: &mut [Held; LINES], n: usize, used: Parents, added: Added)
+    requires { n < office.lines }
+    ensures { held.new ≡ held_with held.old n used added }
+{
+    if let Added::Clause {
+        literals,
+        width,
+        ..
+    } = added
+    {
+        held[n] = Held {
+            literals,
+            width,
+            parents: used,
+        };
     }
-    base + job
 }
 
 // The lines of the base and then those of the job, one after the other, up to the first that fails. The state is handed on and comes back
-// after each line; beside it the loop keeps of each clause the parents that it uses, its number of literals and its width. The inputs on
+// after each line; beside it the loop holds of each clause the parents that it uses, its number of literals and its width. The inputs on
 // which a refutation rests are marked in rests, where nothing is marked before.
 fn read_on<'a>(base: &'a [u8], job: &'a [u8], figures: Figures, rests: &mut [bool; LINES]) -> Stop
     requires { (too_large figures base.now ≡ false) × UpToOffice figures × (named rests.old ≡ []) }
@@ -54,60 +111,35 @@ fn read_on<'a>(base: &'a [u8], job: &'a [u8], figures: Figures, rests: &mut [boo
     ensures stops_at { StopsAt figures base.now job.now result.state result.at }
 {
     let whole = reach(base.len(), job.len());
-    let mut state = fresh();
-    let mut used_a = [0u16; LINES];
-    let mut used_b = [0u16; LINES];
-    let mut literals = [0u8; LINES];
-    let mut widths = [0u8; LINES];
+    let mut state = HeldState::fresh();
+    let mut held = [Held::NONE; LINES];
     let mut at = 0;
     let mut lines = 0;
     while at < whole {
-        let symbols = state.symbols;
-        let number = seam(figures, &state.counts, symbols, base.len(), at, lines, job);
-        if number != 0 {
-            let verdict = Verdict::Refused { number, line: 0 };
-            return Stop { verdict, state, at };
+        match next_line(base, job, figures, &state, &held, at, lines) {
+            Ok((line, length)) => {
+                let added = adds(at, state.inputs, line);
+                hold(&mut held, state.clauses, parents(line), added);
+                match added {
+                    Added::Symbol(count) => state = state.with_symbol(count),
+                    Added::Clause { start, inputs, .. } => state = state.with_clause(start, inputs),
+                }
+                at += length;
+                lines += 1;
+            }
+            Err(verdict) => return Stop { verdict, state, at },
         }
-        let bytes = first_line(part_at(base, job, at));
-        let clauses = state.clauses;
-        let inputs = state.inputs;
-        let seen = see(figures, &state.counts, symbols, clauses, inputs, bytes);
-        let number = failing(
-            figures.depth,
-            base,
-            job,
-            &state.starts,
-            &literals,
-            &widths,
-            clauses,
-            bytes,
-            seen,
-        );
-        let line = lines + 1;
-        if number != 0 {
-            let verdict = Verdict::Refused { number, line };
-            return Stop { verdict, state, at };
-        }
-        let l = seen.line;
-        let used = parents(l);
-        let added = adds(at, inputs, l);
-        used_a[clauses] = used.a;
-        used_b[clauses] = used.b;
-        literals[clauses] = added.literals;
-        widths[clauses] = added.width;
-        if added.symbol {
-            state = with_symbol(state, added.k);
-        } else {
-            state = with_clause(state, added.start, added.inputs);
-        }
-        at += bytes.len() + 1;
-        lines = line;
     }
-    let constant = constant_held(&state.counts, state.symbols);
     let count = state.clauses;
-    let inputs = state.inputs;
-    let first = first_empty(&literals, count);
-    let verdict = finish(constant, count, first, inputs, &used_a, &used_b, rests);
+    let first = first_empty(&held, count);
+    let verdict = finish(
+        state.has_constant(),
+        count,
+        first,
+        state.inputs,
+        &held,
+        rests,
+    );
     Stop { verdict, state, at }
 }
 
@@ -123,16 +155,17 @@ fn verdict_on<'a>(
     ensures answers { Answers figures base.now job.now result.verdict (named rests.new) }
     ensures stops_at { StopsAt figures base.now job.now result.state result.at }
 {
-    if too_large(base, figures) {
-        let verdict = Verdict::Refused { number: 1, line: 0 };
-        let state = fresh();
-        return Stop {
-            verdict,
-            state,
-            at: 0,
-        };
+    if !too_large(base, figures) {
+        return read_on(base, job, figures, rests);
     }
-    read_on(base, job, figures, rests)
+    Stop {
+        verdict: Verdict::Refused {
+            check: Check::Size,
+            line: 0,
+        },
+        state: HeldState::fresh(),
+        at: 0,
+    }
 }
 
 // One reading of a base and a job: the answer, the state after the lines before the one that fails, and the place of that line; where no
@@ -149,14 +182,11 @@ pub fn read_job<'a>(base: &'a [u8], job: &'a [u8]) -> JobRead
         depth: DEPTH,
     };
     let mut rests = [false; LINES];
-    let stop = verdict_on(base, job, figures, &mut rests);
-    let verdict = stop.verdict;
-    let state = stop.state;
-    let answer = Answer { verdict, rests };
+    let Stop { verdict, state, at } = verdict_on(base, job, figures, &mut rests);
     JobRead {
-        answer,
+        answer: Answer { verdict, rests },
         state,
-        at: stop.at,
+        at,
     }
 }
 
@@ -168,8 +198,7 @@ pub fn check_job<'a>(base: &'a [u8], job: &'a [u8]) -> Answer
     ensures job_guarantee { JobGuarantee office base.now job.now result.verdict (named result.rests) }
     ensures base_unchanged { (base.exit.now ≡ base.entry.now) × (job.exit.now ≡ job.entry.now) }
 {
-    let read = read_job(base, job);
-    read.answer
+    read_job(base, job).answer
 }
 
 // The answer to a text, and what it means: a base with no job.
@@ -180,5 +209,5 @@ pub fn check(text: &[u8]) -> Answer
     ensures guarantee { Guarantee office text.now result.verdict (named result.rests) }
     ensures text_unchanged { text.exit.now ≡ text.entry.now }
 {
-    check_job(text, &text[0..0])
+    check_job(text, &[])
 }

@@ -1,9 +1,9 @@
 -- What is written one part after another.
-use Prim.Native.Nat.{ℕ, zero, suc, ◌+◌, ◌-◌, min, ◌≤◌, ◌<◌}
+use Prim.Native.Nat.{ℕ, zero, suc, ◌+◌, ◌-◌, min, ◌≤◌}
 use mathlib.Core.Path.{◌≡◌, refl, ap, ◌∙◌}
 use mathlib.Core.List.{List, [], ◌∷◌, ◌++◌, append-nil}
 use native.Mathlib.Omega.{arith}
-use lib.ListN.{length, take, drop, set, get_or, length-append, length-drop, drop_of_length-le}
+use lib.ListN.{length, take, drop, length-append, length-drop, drop_of_length-le}
 use lib.Seq.{take_all, take-nil, drop-nil}
 use Rattle.writer.specs.Written.{over, Wrote}
 
@@ -22,21 +22,15 @@ pub over_room : (a l : List ℕ) → length a ≤ length l → over a l ≡ a ++
 unfolding over
 over_room a l h = rw (take_all (length l) a)
 
--- One more byte of a part.
-pub over_more : (part l : List ℕ) (i : ℕ) → i < length part → i < length l → set (over (take i part) l) i (get_or part i 0) ≡ over (take (suc i) part) l
+-- As much of the part as there is room for, and then the bytes behind it.
+pub over_put : (part l : List ℕ) (n : ℕ) → n ≡ min (length part) (length l) → take n part ++ drop n l ≡ over part l
 unfolding over
-over_more [] l i h k = absurd (omega arith)
-over_more (b ∷ part) [] i h k = absurd (omega arith)
-over_more (b ∷ part) (x ∷ l) zero h k = rw (take-nil (length l))
-over_more (b ∷ part) (x ∷ l) (suc i) h k = ap (λ m. b ∷ m) (over_more part l i (omega arith) (omega arith))
-
--- With no room left, nothing more of the part is written.
-pub over_full : (part l : List ℕ) (i : ℕ) → i ≤ length part → length l ≤ i → over (take i part) l ≡ over part l
-unfolding over
-over_full part [] i h k = rw (drop-nil (length (take i part)), drop-nil (length part))
-over_full [] (x ∷ l) i h k = absurd (omega arith)
-over_full (b ∷ part) (x ∷ l) zero h k = absurd (omega arith)
-over_full (b ∷ part) (x ∷ l) (suc i) h k = ap (λ m. b ∷ m) (over_full part l i (omega arith) (omega arith))
+over_put [] l zero h = rw take-nil
+over_put [] l (suc n) h = absurd (omega arith)
+over_put (b ∷ part) [] zero h = refl
+over_put (b ∷ part) [] (suc n) h = absurd (omega arith)
+over_put (b ∷ part) (x ∷ l) zero h = absurd (omega arith)
+over_put (b ∷ part) (x ∷ l) (suc n) h = ap (λ m. b ∷ m) (over_put part l n (omega arith))
 
 over_both : (a b l : List ℕ) (j : ℕ) → j ≡ min (length a) (length l) → take j (over a l) ++ over b (drop j (over a l)) ≡ over (a ++ b) l
 unfolding over

@@ -1,4 +1,4 @@
-use Rattle.std.proofs.Common.{false, get_or, length, ◌-◌, ◌≤◌, ◌≡◌, ℕ}
+use Rattle.std.proofs.Common.{false, get_or, ℕ}
 use Rattle.logic.specs.Descent.{numbers_below}
 use Rattle.writer.specs.Written.{Wrote}
 use Rattle.print.specs.Line.{spaced}
@@ -6,11 +6,4 @@ use Rattle.print.proofs.put_marked.Given as goal
 
 -- The marked numbers below n are written.
 abbrev pub invariant-loop-n : goal.invariant-loop-n
-invariant-loop-n l = record {
-  in_marks : l.n ≤ 1024;
-  same_length : length l.out ≡ length l.fn.out;
-  written : Wrote (spaced (numbers_below l.n (λ (m : ℕ). get_or l.fn.marks m false))) l.fn.out l.end l.out;
-}
-
-abbrev pub decreases-loop-n : goal.decreases-loop-n
-decreases-loop-n l = 1024 - l.n
+invariant-loop-n l = Wrote (spaced (numbers_below l.n (λ (m : ℕ). get_or l.fn.marks m false))) l.fn.out l.end l.out

@@ -3,4 +3,4 @@ use Rattle.rule_numbers.proofs.Flags.{carried}
 use Rattle.rule_table.proofs.table_row.Goals as goal
 
 pub returns : goal.returns
-returns c = rw c.row-n.ensures (carried row_of _ c.args.rule)
+returns c = rw c.row.ensures (carried row_of _ c.args.rule)

@@ -1,11 +1,10 @@
-use Prim.Native.Nat.{◌≤◌, ◌+◌, ◌-◌}
-use lib.ListN.{drop}
-use mathlib.Core.Path.{◌≡◌}
+use Rattle.std.proofs.Common.{◌≡◌, ◌+◌, ◌≤◌, drop}
 use Rattle.text.specs.Size.{line_end_count}
 use Rattle.source.proofs.block_ends.Given as goal
 
-abbrev pub invariant-loop-k : goal.invariant-loop-k
-invariant-loop-k l = (l.k ≤ 128) × (l.ends ≤ l.k) × (line_end_count (drop l.at l.text) ≡ l.ends + line_end_count (drop (l.at + l.k) l.text))
-
-abbrev pub decreases-loop-k : goal.decreases-loop-k
-decreases-loop-k l = 128 - l.k
+-- What is counted, and what stands behind it, are the line ends of the block.
+abbrev pub invariant-loop-byte : goal.invariant-loop-byte
+invariant-loop-byte l = record {
+  few : l.ends ≤ l.byte-index;
+  counted : line_end_count l.block ≡ l.ends + line_end_count (drop l.byte-index l.block);
+}

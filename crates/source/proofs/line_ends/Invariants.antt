@@ -1,11 +1,7 @@
-use Prim.Native.Nat.{◌≤◌, ◌+◌, ◌-◌}
-use lib.ListN.{length, drop}
-use mathlib.Core.Path.{◌≡◌}
+use Rattle.std.proofs.Common.{◌≡◌, ◌+◌, ◌*◌, drop}
 use Rattle.text.specs.Size.{line_end_count}
 use Rattle.source.proofs.line_ends.Given as goal
 
-abbrev pub invariant-loop-i : goal.invariant-loop-i
-invariant-loop-i l = (l.i ≤ length l.text) × (line_end_count l.text ≡ l.ends + line_end_count (drop l.i l.text))
-
-abbrev pub decreases-loop-i : goal.decreases-loop-i
-decreases-loop-i l = length l.text - l.i
+-- What is counted, and what stands behind it, are the line ends of the text.
+abbrev pub invariant-loop-block : goal.invariant-loop-block
+invariant-loop-block l = line_end_count l.text ≡ l.ends + line_end_count (drop (l.block-index * 128) l.text)

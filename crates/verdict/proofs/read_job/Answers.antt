@@ -15,11 +15,5 @@ unmarked : named (replicate office.lines false) ≡ []
 unfolding named
 unmarked = numbers_none office.lines _ (none_marked office.lines)
 
-pub verdict_on-stop-requires : goal.verdict_on-stop-requires
-verdict_on-stop-requires c = (record { bytes = omega arith; lines = omega arith; depth = omega arith }, unmarked)
-
-pub returns-clause-verdict_value : goal.returns-clause-verdict_value
-returns-clause-verdict_value c = c.verdict_on-stop.ensures.answers.is
-
-pub returns-clause-rests_value : goal.returns-clause-rests_value
-returns-clause-rests_value c = c.verdict_on-stop.ensures.answers.names
+pub verdict_on-verdict-requires : goal.verdict_on-verdict-requires
+verdict_on-verdict-requires c = (record { bytes = omega arith; lines = omega arith; depth = omega arith }, unmarked)

@@ -1,11 +1,9 @@
-use Prim.Native.Nat.{◌-◌, ◌≤◌}
-use mathlib.Core.Path.{◌≡◌}
-use lib.ListN.{length, drop}
+use Rattle.std.proofs.Common.{◌≡◌, ◌≤◌, ◌+◌, length}
 use Rattle.text.specs.Access.{closing, skip_item}
 use Rattle.clauses.proofs.access.skip.Given as goal
 
-abbrev pub invariant-loop-i : goal.invariant-loop-i
-invariant-loop-i l = (l.i ≤ length l.s) × (l.level ≤ l.i) × (skip_item (drop l.at l.s) ≡ closing l.level (drop l.i l.s))
+abbrev pub invariant-loop-b : goal.invariant-loop-b
+invariant-loop-b l = (l.level + length l.rest ≤ length l.s) × (skip_item l.s ≡ closing l.level l.rest)
 
-abbrev pub decreases-loop-i : goal.decreases-loop-i
-decreases-loop-i l = length l.s - l.i
+abbrev pub decreases-loop-b : goal.decreases-loop-b
+decreases-loop-b l = length l.rest

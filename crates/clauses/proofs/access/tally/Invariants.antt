@@ -1,10 +1,5 @@
-use Prim.Native.Nat.{◌≤◌, ◌-◌}
-use mathlib.Core.Path.{◌≡◌}
-use Rattle.clauses.specs.Nearer.{tallied}
+use Rattle.std.proofs.Common.{◌≡◌, ◌≤◌, count_by, eqb, take}
 use Rattle.clauses.proofs.access.tally.Given as goal
 
-abbrev pub invariant-loop-k : goal.invariant-loop-k
-invariant-loop-k l = (l.k ≤ 16) × (l.n ≤ l.k) × (l.n ≡ tallied l.byte l.s l.at l.k)
-
-abbrev pub decreases-loop-k : goal.decreases-loop-k
-decreases-loop-k l = 16 - l.k
+abbrev pub invariant-loop-b : goal.invariant-loop-b
+invariant-loop-b l = (l.n ≤ l.b-index) × (l.n ≡ count_by (eqb l.byte) (take l.b-index l.bytes))

@@ -1,41 +1,45 @@
-use Prim.Native.Nat.{ℕ, ◌+◌, ◌-◌}
-use mathlib.Core.List.{[], ◌∷◌}
-use Rattle.std.proofs.Common.{rules}
-use mathlib.Core.Path.{◌≡◌, sym, ◌∙◌, ap}
-use native.Mathlib.Omega.{arith}
-use Rattle.filling.specs.declared.compare.Ends.{Ends}
-use Rattle.clauses.specs.Shapes.{strip_at, skip_at}
-use Rattle.filling.specs.Claims.{kept_at, others_from, others_at}
-use Rattle.filling.proofs.Claiming.{others_kept, others_dropped, others_last, others_end}
+use Rattle.std.proofs.Common.{refl, sym, ap, ◌∙◌}
+use Rattle.text.specs.Answers.{passed}
+use Rattle.clauses.proofs.Listing.{after_word}
+use Rattle.filling.specs.Items.{item_of, beside}
+use Rattle.expected.specs.Claims.{others, others_from}
+use Rattle.expected.proofs.Others.{no_more, not_kept, is_kept, not_passed, is_passed, is_last}
 use Rattle.expected.proofs.claims.others.Goals as goal
+use Rattle.expected.proofs.claims.others.Goals.{then-n-dropped+in_ok-literals, else-n-dropped+then-n-count+in_ok-literals-2, else-n-dropped+else-n-count}
 
-pub loop-n-preserved-then-n-count : goal.loop-n-preserved-then-n-count
-unfolding strip_at skip_at
-loop-n-preserved-then-n-count c =
+pub returns-in_err-literals-clause-value : goal.returns-in_err-literals-clause-value
+unfolding others
+returns-in_err-literals-clause-value c =
     let a = c.args in
-    let l = c.loop-n in
-    let k : c.skip-at.result ≡ skip_at a.clause.now (strip_at a.clause.now (32 ∷ []) l.at) = c.skip-at.ensures.value ∙ ap (skip_at a.clause.now) c.word-begin.ensures.value in
-    let on : ℕ → ℕ = λ z. others_from a.depth a.clause.now a.dropped a.line.now a.list.now a.rest.now (a.count - (l.n + 1)) (l.n + 1) z l.place in
-    (omega arith, ap on k ∙ (sym (others_dropped a.depth a.clause.now a.dropped a.line.now a.list.now a.rest.now a.count l.n l.at l.place c.loop-n-test.true (search rules)) ∙ l.invariant.1))
+    let start = ap (λ r. r.now) c.unwrap_or-literals.ensures ∙ after_word _ _ c.begin.ensures.value refl in
+    let e = rw c.beside.ensures.value at c.in_err-literals.ensures in
+    ap passed c.from_residual.ensures
+    ∙ not_kept a.depth a.dropped a.count c.loop-n.n (beside (item_of a.clause) c.loop-n.literals.now) c.loop-n.left.now c.loop-n-test.true c.if-n-dropped.true e
+    ∙ (sym c.loop-n.invariant ∙ ap (λ ls. others_from a.depth a.dropped a.count 0 (beside (item_of a.clause) ls) a.rest.now) start)
 
-pub loop-n-preserved-else-n-count : goal.loop-n-preserved-else-n-count
-loop-n-preserved-else-n-count c =
+pub returns-in_err-literals-2-clause-value : goal.returns-in_err-literals-2-clause-value
+unfolding others
+returns-in_err-literals-2-clause-value c =
     let a = c.args in
-    let l = c.loop-n in
-    (omega arith, sym (others_last a.depth a.clause.now a.dropped a.line.now a.list.now a.rest.now a.count l.n l.at l.place c.loop-n-test.true (search rules) c.if-n-count.false l.at) ∙ l.invariant.1)
+    let start = ap (λ r. r.now) c.unwrap_or-literals.ensures ∙ after_word _ _ c.begin.ensures.value refl in
+    ap passed c.from_residual-in_err-literals-2.ensures
+    ∙ not_passed a.depth a.dropped a.count c.loop-n.n (beside (item_of a.clause) c.loop-n.literals.now) c.loop-n.left.now c.loop-n-test.true c.if-n-dropped.false c.if-n-count.true c.in_err-literals-2.ensures.value
+    ∙ (sym c.loop-n.invariant ∙ ap (λ ls. others_from a.depth a.dropped a.count 0 (beside (item_of a.clause) ls) a.rest.now) start)
 
 pub loop-n-preserved : goal.loop-n-preserved
-unfolding strip_at
 loop-n-preserved c =
     let a = c.args in
-    let l = c.loop-n in
-    let k : c.kept-found.result ≡ kept_at a.depth a.clause.now (strip_at a.clause.now (32 ∷ []) l.at) a.line.now a.list.now a.rest.now l.place = c.kept-found.ensures ∙ ap (λ z. kept_at a.depth a.clause.now z a.line.now a.list.now a.rest.now l.place) c.word-begin.ensures.value in
-    let on : Ends → ℕ = λ (z : Ends). others_from a.depth a.clause.now a.dropped a.line.now a.list.now a.rest.now (a.count - (l.n + 1)) (l.n + 1) z.at z.pos in
-    (omega arith, ap on k ∙ (sym (others_kept a.depth a.clause.now a.dropped a.line.now a.list.now a.rest.now a.count l.n l.at l.place c.loop-n-test.true (search rules)) ∙ l.invariant.1))
+    let x = beside (item_of a.clause) c.loop-n.literals.now in
+    c.loop-n.invariant ∙ elim c.if-n-dropped.branch [
+      | then-n-dropped+in_ok-literals w ↦ rw (w.literals-is, w.left-is) (is_kept a.depth a.dropped a.count c.loop-n.n x c.loop-n.left.now c.loop-n-test.true w.if-n-dropped.true (rw w.beside.ensures.value at w.in_ok-literals.ensures))
+      | else-n-dropped+then-n-count+in_ok-literals-2 w ↦ rw (w.literals-is, w.left-is) (is_passed a.depth a.dropped a.count c.loop-n.n x c.loop-n.left.now c.loop-n-test.true w.if-n-dropped.false w.if-n-count.true w.in_ok-literals-2.ensures.value)
+      | else-n-dropped+else-n-count w ↦ rw (w.literals-is, w.left-is) (is_last a.depth a.dropped a.count c.loop-n.n x c.loop-n.left.now c.loop-n-test.true w.if-n-dropped.false w.if-n-count.false x)
+    ]
 
 pub returns-clause-value : goal.returns-clause-value
-unfolding others_at strip_at
+unfolding others
 returns-clause-value c =
     let a = c.args in
-    let l = c.loop-n in
-    sym (others_end a.depth a.clause.now a.dropped a.line.now a.list.now a.rest.now a.count l.n l.at l.place c.loop-n-test.false) ∙ (l.invariant.1 ∙ ap (λ z. others_from a.depth a.clause.now a.dropped a.line.now a.list.now a.rest.now a.count 0 z a.pos) c.word-at.ensures.value)
+    let start = ap (λ r. r.now) c.unwrap_or-literals.ensures ∙ after_word _ _ c.begin.ensures.value refl in
+    no_more a.depth a.dropped a.count c.loop-n.n (beside (item_of a.clause) c.loop-n.literals.now) c.loop-n.left.now c.loop-n-test.false
+    ∙ (sym c.loop-n.invariant ∙ ap (λ ls. others_from a.depth a.dropped a.count 0 (beside (item_of a.clause) ls) a.rest.now) start)

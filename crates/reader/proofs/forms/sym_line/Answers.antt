@@ -1,12 +1,11 @@
-use Rattle.reader.proofs.LineParts.{line_whole, line_broken, sym_track}
+use Rattle.std.proofs.Common.{sym}
+use Rattle.text.specs.Read.{read_sym}
+use Rattle.reader.proofs.Lines.{no_line, sym_reads}
 use Rattle.reader.proofs.forms.sym_line.Goals as goal
 
-pub returns-then-e-s : goal.returns-then-e-s
-returns-then-e-s c =
-    let a = c.args in
-    line_whole a.table.now a.s.now (sym_track a.table.now a.s.now a.at c.number-k.ensures.value c.word-e.ensures.value) c.if-e-s.true
+pub returns-in_err-k : goal.returns-in_err-k
+unfolding read_sym
+returns-in_err-k c = λ table line. rw c.from_residual.ensures (sym (no_line table line (rw (← c.in_err-k.ensures.value))))
 
-pub returns-else-e-s : goal.returns-else-e-s
-returns-else-e-s c =
-    let a = c.args in
-    line_broken a.table.now a.s.now (sym_track a.table.now a.s.now a.at c.number-k.ensures.value c.word-e.ensures.value) c.if-e-s.false
+pub returns : goal.returns
+returns c = λ table line. rw (c.then_some.ensures, c.closes.ensures) (sym_reads table line c.args.s.now c.in_ok-k.ensures.value)

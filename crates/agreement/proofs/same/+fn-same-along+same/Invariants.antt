@@ -1,0 +1,9 @@
+-- The measure is the depth left: an item, and the items in it.
+use Rattle.std.proofs.Common.{◌+◌, ◌*◌}
+use Rattle.agreement.proofs.same.+fn-same-along+same.Given as goal
+
+abbrev pub decreases-same : goal.decreases-same
+decreases-same l = 2 * l.depth
+
+abbrev pub decreases-along : goal.decreases-along
+decreases-along l = 2 * l.inner + 1

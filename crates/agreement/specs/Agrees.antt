@@ -1,0 +1,52 @@
+-- Nothing here is to be believed: the laws in crates/rules/proofs say what it gives on written clauses. Terms nest at most `depth` deep.
+-- Agreement of filled items in bytes, and of what two arrow atoms have before their results.
+use Rattle.std.specs.Prelude.{ℕ, Bool, false, true, ◌&&◌, ◌||◌, List, Option, Some, None, take}
+use Rattle.text.specs.Read.{Parsed, bad, got, ◌>>◌, strip, skip}
+use Rattle.text.specs.Access.{stood}
+use Rattle.clauses.specs.Shapes.{next, result_of}
+use Rattle.filling.specs.Filled.{same_item, matches, item_depth}
+use Rattle.filling.specs.Items.{Item, beside, by_entries, filled}
+
+unfoldable pub met : Parsed (List ℕ) → Bool
+met bad = false
+met (got left rest) = true
+
+-- Both filled items are the same. Where one clause has no variables, the other's item is expected in its bytes.
+unfoldable pub agrees_by : ℕ → Option (List (List ℕ)) → Option (List (List ℕ)) → Item → Item → Bool
+agrees_by depth es None x y = met (matches (filled x (item_depth depth)) y.bytes)
+agrees_by depth None (Some fs) x y = met (matches (filled y (item_depth depth)) x.bytes)
+agrees_by depth (Some es) (Some fs) x y = met (same_item (by_entries es) (by_entries fs) (item_depth depth) x.bytes y.bytes)
+
+abbrev pub agrees : ℕ → Item → Item → Bool
+agrees depth x y = agrees_by depth x.entries y.entries x y
+
+-- A test of what stands further on in both clauses.
+unfoldable pub further : (Item → Item → Bool) → Item → Item → Parsed (Unit {0}) → Parsed (Unit {0}) → Bool
+further test x y bad q = false
+further test x y (got u ps) bad = false
+further test x y (got u ps) (got v qs) = test (beside x ps) (beside y qs)
+
+-- R18, "same .. argument count, .. method, arguments", from the methods on.
+unfoldable pub parts_agree : ℕ → Item → Item → Bool
+parts_agree depth x y = agrees depth x y && further (agrees depth) x y (next x.bytes) (next y.bytes)
+
+-- R18, "same .. argument count, object, method, arguments", from the objects on.
+unfoldable pub calls_agree : ℕ → Item → Item → Bool
+calls_agree depth x y = agrees depth x y && further (parts_agree depth) x y (next x.bytes) (next y.bytes)
+
+-- The result of an arrow atom, from its object on, is none.
+unfoldable pub has_none : List ℕ → Bool
+has_none bs = stood ((result_of >> skip "none") bs)
+
+-- R4, "Y is X with none in place of a term result": the first atom has none and is otherwise the second.
+abbrev pub bare_calls : ℕ → Item → Item → Bool
+bare_calls depth x y = has_none x.bytes && calls_agree depth x y
+
+unfoldable pub is_bare : ℕ → Item → Item → Bool
+is_bare depth x y =
+    let head = take 4 x.bytes in
+    further (bare_calls depth) x y (strip head x.bytes) (strip head y.bytes)
+
+-- R4, "X *covers* Y if they are equal, or if Y is X with none in place of a term result": the second atom covers the first.
+unfoldable pub is_covered : ℕ → Item → Item → Bool
+is_covered depth x y = agrees depth x y || is_bare depth x y

@@ -1,0 +1,42 @@
+-- Nothing here is to be believed: `let_entry` (crates/text/proofs/Nesting) says what is found in a written list.
+-- R2, "variable N of A becomes term N of the first list": the bytes of the entries of a list.
+use Rattle.std.specs.Prelude.{ℕ, zero, suc, ◌-◌, List, [], ◌∷◌, Option, Some, None, length, take, replicate, map}
+use Rattle.std.specs.Borrow.{Bor}
+use Rattle.text.specs.Read.{Parsed, bad, got, Reader, and_then, ◌>>◌, skip}
+use Rattle.text.specs.Access.{skip_item}
+
+-- The bytes after what was read; none where nothing was.
+unfoldable pub after : Parsed (Unit {0}) → List ℕ
+after bad = []
+after (got u rest) = rest
+
+-- The bytes of an item as they stand.
+unfoldable pub itself : Reader (List ℕ)
+itself bs = and_then (skip_item bs) (λ _ rest. got (take (length bs - length rest) bs) rest)
+
+-- After a space.
+unfoldable pub next_entry : Reader (List ℕ)
+next_entry = skip " " >> itself
+
+-- Of n entries the one that was read and those after it; empty ones where none was.
+unfoldable pub one_more : ℕ → (List ℕ → List (List ℕ)) → Parsed (List ℕ) → List (List ℕ)
+one_more n others bad = replicate n []
+one_more n others (got item rest) = item ∷ others rest
+
+-- The next n entries; past the last they are empty.
+unfoldable pub items : ℕ → List ℕ → List (List ℕ)
+items zero bs = []
+items (suc n) bs = one_more (suc n) (items n) (next_entry bs)
+
+-- T6, T9, "a list, `(let TERM ...)`": its entries, of which there are at most 32.
+unfoldable pub entries : List ℕ → List (List ℕ)
+entries bs = items 32 (after (skip "(let" bs))
+
+-- Texts that are lent, by their bytes.
+abbrev pub texts : List (Bor (List ℕ)) → List (List ℕ)
+texts es = map (λ e. e.now) es
+
+-- An item and the bytes after it.
+abbrev pub taken : Option (Bor (List ℕ) × Bor (List ℕ)) → Parsed (List ℕ)
+taken None = bad
+taken (Some p) = got p.0.now p.1.now

@@ -1,0 +1,65 @@
+-- Nothing here is to be believed: the laws in crates/rules/proofs say what it gives on written clauses. Terms nest at most `depth` deep.
+-- Check 11 (V21) in bytes. R21: "The claim, all of it filled, is the new literal, if there is one, then A's other literals, then B's other
+-- literals, in order." Each definition reads what it expects in the claim, and gives the bytes after it.
+use Rattle.std.specs.Prelude.{ℕ, zero, suc, ◌+◌, Bool, false, true, cond, List, [], ◌∷◌, Option, eqb}
+use Rattle.text.specs.Words.{bytes}
+use Rattle.text.specs.Read.{Parsed, bad, got, Reader, and_then, ◌>>◌, strip, skip}
+use Rattle.text.specs.Access.{pass_item}
+use Rattle.clauses.specs.Entries.{after}
+use Rattle.clauses.specs.Shapes.{literals}
+use Rattle.filling.specs.Filled.{fill_item, matches, item_depth, hole_depth}
+use Rattle.filling.specs.Items.{Item, beside, listed, with_hole, filled}
+
+-- T9, "followed by the clause that it claims": the claim ends here, and its line with it.
+unfoldable pub nothing_after : Parsed (Unit {0}) → Bool
+nothing_after bad = false
+nothing_after (got u []) = true
+nothing_after (got u (b ∷ bs)) = false
+
+unfoldable pub claim_ends : List ℕ → Bool
+claim_ends rest = nothing_after (skip "))" rest)
+
+-- What was compared with the claim is left there.
+unfoldable pub in_claim : Parsed (List ℕ) → Parsed (Unit {0})
+in_claim bad = bad
+in_claim (got left rest) = got tt left
+
+-- The item, filled.
+unfoldable pub item_claimed : ℕ → Item → Reader (Unit {0})
+item_claimed depth x rest = in_claim (matches (filled x (item_depth depth)) rest)
+
+-- A new literal of two terms: its head with the space in front, two items with a space between them, and two closing brackets.
+unfoldable pub linked : ℕ → List ℕ → Item → Item → Reader (Unit {0})
+linked depth head x y = strip head >> (item_claimed depth x >> (skip " " >> (item_claimed depth y >> skip "))")))
+
+-- R8: "+ sub(T,T)", T what variable 0 becomes. R12: "+ eq(P,Q)"; R18: "+ eq(R,R')".
+unfoldable pub reflexive : ℕ → Option (List (List ℕ)) → Reader (Unit {0})
+reflexive depth es =
+    let first : Item = record { bytes = bytes "(v 0)"; entries = es } in
+    linked depth (bytes " (+ (sub ") first first
+
+unfoldable pub equated : ℕ → Item → Item → Reader (Unit {0})
+equated depth x y = linked depth (bytes " (+ (eq ") x y
+
+-- After a space, the literal filled, with an item of another clause, filled, in place of the one that begins `hole` bytes before the end.
+unfoldable pub rewritten : ℕ → Item → ℕ → Item → Reader (Unit {0})
+rewritten depth x hole y =
+    skip " " >> (λ rest. in_claim (matches (fill_item (with_hole (listed x.entries) hole y) (hole_depth depth) x.bytes) rest))
+
+-- The first of the literals that stand after a space each, filled: what is left of the claim, and of the literals.
+unfoldable pub kept : ℕ → Item → List ℕ → Parsed (List ℕ)
+kept depth x rest =
+    let compare = λ (bs left : List ℕ). matches (filled (beside x bs) (item_depth depth)) left in
+    and_then (skip " " x.bytes) (λ _ bs. and_then (skip " " rest) (λ _ left. compare bs left))
+
+-- The k literals from literal n on without the dropped one, each after a space. One that is dropped and the last is not looked at.
+unfoldable pub others_from : ℕ → ℕ → ℕ → ℕ → Item → Reader (Unit {0})
+others_from depth dropped zero n x rest = got tt rest
+others_from depth dropped (suc k) n x rest =
+    let kept_one = and_then (kept depth x rest) (λ left bs. others_from depth dropped k (n + 1) (beside x bs) left) in
+    let passed_one = and_then (pass_item x.bytes) (λ _ bs. others_from depth dropped k (n + 1) (beside x bs) rest) in
+    cond (eqb n dropped) (cond (eqb k 0) (got tt rest) passed_one) kept_one
+
+-- The first `count` literals of a clause but one.
+unfoldable pub others : ℕ → ℕ → ℕ → Item → Reader (Unit {0})
+others depth count dropped x = others_from depth dropped count 0 (beside x (after (literals x.bytes)))
