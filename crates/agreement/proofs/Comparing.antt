@@ -4,7 +4,7 @@ use mathlib.Core.Path.{◌≡◌, sym, ◌∙◌}
 use mathlib.Core.List.{List, [], ◌∷◌}
 use native.Mathlib.Omega.{arith}
 use lib.ListN.{length}
-use Rattle.text.specs.Read.{bad, got, and_then, strip}
+use Rattle.text.specs.Read.{Parsed, bad, got, and_then, strip}
 use Rattle.filling.specs.Filled.{Filler, indexed, fill_item, along, both, turned, same_item}
 use Rattle.filling.proofs.Expecting.{variable}
 use Rattle.filling.proofs.Sameness.{same_zero, same_first, same_second, same_nested}
@@ -14,8 +14,8 @@ module _ (f g : Filler) (ps qs : List ℕ) (d : ℕ) where
   too_deep z = sym (same_zero f g d ps qs z)
 
   module _ (inner : ℕ) (deep : d ≡ inner + 1) where
-    pub at_first : {cs : List ℕ} → got tt cs ≡ strip variable ps → both (indexed f.entry cs) (fill_item g d qs) ≡ same_item f g d ps qs
-    at_first e = sym (same_first f g d ps qs (omega arith) (sym e))
+    pub at_first : {cs : List ℕ} {r : Parsed (List ℕ)} → got tt cs ≡ strip variable ps → r ≡ both (indexed f.entry cs) (fill_item g d qs) → r ≡ same_item f g d ps qs
+    at_first e s = s ∙ sym (same_first f g d ps qs (omega arith) (sym e))
 
     module _ (v : bad ≡ strip variable ps) where
       pub at_second : {cs : List ℕ} → got tt cs ≡ strip variable qs → turned (both (indexed g.entry cs) (fill_item f d ps)) ≡ same_item f g d ps qs

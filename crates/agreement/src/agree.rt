@@ -3,7 +3,7 @@ ghost use Rattle.std.specs.Prelude.{◌≡◌};
 ghost use Rattle.filling.specs.Items.{item_of};
 ghost use Rattle.agreement.specs.Agrees.{agrees, parts_agree, calls_agree, has_none, is_bare, is_covered};
 
-use crate::same::same;
+use crate::same::Lists;
 use clauses::shapes::{next, result};
 use filling::compare::{Filled, item_depth, stands};
 use scan::words::word;
@@ -18,11 +18,15 @@ pub fn agree(depth: u8, a: Filled<'_>, b: Filled<'_>) -> bool
     match (a.entries, b.entries) {
         (_, None) => stands(a, deep, b.item).is_some(),
         (None, _) => stands(b, deep, a.item).is_some(),
-        (Some(first), Some(second)) => same(first, a.item, second, b.item, deep).is_some(),
+        (Some(first), Some(second)) => {
+            let lists = Lists { first, second };
+            lists.same(a.item, b.item, deep).is_some()
+        }
     }
 }
 
 // Parts of arrow atoms, from their methods on, have the same method and arguments.
+// `calls` is this with one item more; a loop that counts to three would be no plainer, since it says less than two names.
 #[tactic(auto, unfolding(crate::specs::Agrees::parts_agree, crate::specs::Agrees::further))]
 fn parts(depth: u8, a: Filled<'_>, b: Filled<'_>) -> bool
     ensures { result ≡ parts_agree depth (item_of a.entry) (item_of b.entry) }

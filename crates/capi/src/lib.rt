@@ -10,6 +10,7 @@ ghost use Rattle.capi.specs.Numbered.{word_number, first_number, second_number, 
 use meaning::Verdict;
 use text::LINES;
 
+// The C interface takes numbers: the verdict's word, its first number and its second.
 #[tactic(auto, unfolding(crate::specs::Numbered::word_number))]
 fn word(v: Verdict) -> u32
     ensures { result ≡ word_number v }
@@ -42,25 +43,20 @@ fn second_number(v: Verdict) -> usize
     }
 }
 
-// 1 where n is marked, and 0 otherwise.
-#[tactic(auto, using(crate::proofs::Flags::flag_mark))]
-fn flag_at(marks: &[bool; LINES], n: usize) -> u8
-    ensures { result ≡ flag (named marks.now) n }
-{
-    u8::from(marks.get(n).copied().unwrap_or(false))
-}
-
 // Writes each byte of out: byte n is 1 where n is marked, and 0 otherwise.
 fn put_flags(marks: &[bool; LINES], out: &mut [u8])
     ensures { out.new ≡ flags (length out.old) (named marks.now) }
 {
-    for (n, byte) in out.iter_mut().enumerate() {
-        *byte = flag_at(marks, n);
+    let (told, past) = out.split_at_mut(out.len().min(LINES));
+    for (n, byte) in told.iter_mut().enumerate() {
+        *byte = u8::from(marks[n]);
     }
+    past.fill(0);
 }
 
 // The answer to a base and a job: answers the verdict's word, 0 refused, 1 open, 2 refuted, and leaves its numbers in first and second,
-// 0 in second where it has one number. Byte n of rests becomes 1 where the refutation rests on input n, and 0 otherwise.
+// 0 in second where it has one number. Byte n of rests becomes 1 where the refutation rests on input n, and 0 otherwise. The parameters are
+// those of the C interface.
 #[unsafe(no_mangle)]
 pub extern "C" fn fcheck_check_job<'a>(
     base: &'a [u8],

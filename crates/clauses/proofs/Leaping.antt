@@ -2,8 +2,8 @@
 use Rattle.std.proofs.Common.{◌≡◌, ◌≤◌, ℕ, ◌+◌, ◌-◌, cond, List, [], ◌∷◌, ◌++◌, eqb, length, take, drop, count_by, sym, ap, ◌∙◌, arith}
 use native.Mathlib.Decide.{ℕ_discrete}
 use borrow.Author.Tests.{ne_eqb}
-use Rattle.std.proofs.lemmas.List.{take-append-drop, length-take-le}
-use Rattle.std.proofs.lemmas.List.Sums.{sum_by-cons, count_by-le-length}
+use Rattle.std.proofs.lemmas.List.{take-append-drop}
+use Rattle.std.proofs.lemmas.List.Sums.{sum_by-cons}
 use Rattle.text.specs.Access.{closing}
 
 -- No more brackets close among w than are open.
@@ -39,10 +39,6 @@ leaps : (w rest : List ℕ) (level : ℕ) → Leaps w rest level
 leaps [] rest level = λ h. let z : level + 0 - 0 ≡ level = omega arith in rw z
 leaps (x ∷ w) rest level = by_byte x w rest level (leaps w rest) (ℕ_discrete x 40) (ℕ_discrete x 41)
 
--- The same of the first k bytes.
-module _ (bs : List ℕ) (level k : ℕ) (l : k ≤ length bs) where
-  pub few : (b : ℕ) → count_by (eqb b) (take k bs) ≤ k
-  few b = omega (arith, count_by-le-length (eqb b) (take k bs), length-take-le k bs l)
-
-  pub leap_over : count_by (eqb 41) (take k bs) ≤ level → closing level bs ≡ closing (level + count_by (eqb 40) (take k bs) - count_by (eqb 41) (take k bs)) (drop k bs)
-  leap_over h = ap (closing level) (sym (take-append-drop k bs)) ∙ leaps (take k bs) (drop k bs) level h
+-- The same of the first 16 bytes.
+pub leap_over : (level : ℕ) (bs : List ℕ) → 16 ≤ length bs → count_by (eqb 41) (take 16 bs) ≤ level → closing level bs ≡ closing (level + count_by (eqb 40) (take 16 bs) - count_by (eqb 41) (take 16 bs)) (drop 16 bs)
+leap_over level bs l h = ap (closing level) (sym (take-append-drop 16 bs)) ∙ leaps (take 16 bs) (drop 16 bs) level h

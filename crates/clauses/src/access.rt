@@ -14,15 +14,17 @@ const STRIDE: usize = 16;
 const DEEP: usize = 3;
 
 // What is left of an item, and the brackets that are open there besides the item's own.
-#[derive(Clone, Copy)]
+#[derive(Clone, Copy, Debug, PartialEq, Eq)]
 struct Inside<'a> {
     rest: &'a [u8],
     level: usize,
 }
 
-// How often the byte stands among those.
+// How often the byte stands among those. A function for this and for `block_ends` of source would be open to others and ask them for a
+// short slice, and no open call asks anything of bytes.
 fn tally(bytes: &[u8; STRIDE], byte: u8) -> usize
-    ensures { result ≡ count_by (eqb byte) bytes.now }
+    ensures count { result ≡ count_by (eqb byte) bytes.now }
+    ensures at_most { result ≤ STRIDE }
 {
     let mut n: u8 = 0;
     for b in bytes {
@@ -34,12 +36,14 @@ fn tally(bytes: &[u8; STRIDE], byte: u8) -> usize
 }
 
 // A place at or before the end of the item, by steps of 16 bytes in which it cannot end.
+#[tactic(auto, using(crate::proofs::Leaping::leap_over))]
 fn leap(item: &[u8], level: usize) -> Inside<'_>
     requires { level + length item.now < 18446744073709551616 }
     ensures { Nearer item.now level result }
 {
     let mut rest = item;
     let mut inner = level;
+    // No iterator ends by what was counted.
     while inner >= DEEP {
         let Some((bytes, after)) = rest.split_first_chunk::<STRIDE>() else {
             break;

@@ -1,5 +1,5 @@
 // Items one after another.
-ghost use Rattle.std.specs.Prelude.{◌≡◌};
+ghost use Rattle.std.specs.Prelude.{◌≡◌, [], length, replicate};
 ghost use Rattle.clauses.specs.Entries.{entries, next_entry, taken, texts};
 ghost use Rattle.text.specs.Answers.{passed};
 ghost use Rattle.text.specs.Access.{pass_item, to_item, opening, to_argument};
@@ -63,20 +63,29 @@ fn next_entry(s: &[u8]) -> Option<(&[u8], &[u8])>
     split(word(s, b" ")?)
 }
 
-// The entries of a list; past the last they are empty.
-pub fn entries(list: &[u8]) -> [&[u8]; ENTRIES]
-    ensures value { texts result ≡ entries list.now }
-    ensures list_unchanged { list.exit.now ≡ list.entry.now }
+// Makes them all empty.
+#[tactic(auto, using(crate::proofs::Listing::one_cleared))]
+fn clear(found: &mut [&[u8]])
+    ensures { texts found.new ≡ replicate (length found.old) [] }
 {
     let none: &[u8] = &[];
-    let mut found = [none; ENTRIES];
-    let mut rest = word(list, b"(let").unwrap_or(none);
+    for entry in found.iter_mut() {
+        *entry = none;
+    }
+}
+
+// Puts the entries of a list into `found`; past the last they are empty. Lent, and not handed back: an array of 512 bytes would be moved.
+#[tactic(auto, unfolding(crate::specs::Entries::entries), using(crate::proofs::Listing::listing))]
+pub fn entries<'a>(list: &'a [u8], found: &mut [&'a [u8]; ENTRIES])
+    ensures value { texts found.new ≡ entries list.now }
+    ensures list_unchanged { list.exit.now ≡ list.entry.now }
+{
+    let mut rest = word(list, b"(let").unwrap_or(&[]);
     for n in 0..ENTRIES {
         let Some((entry, after)) = next_entry(rest) else {
-            break;
+            return clear(&mut found[n..]);
         };
         found[n] = entry;
         rest = after;
     }
-    found
 }

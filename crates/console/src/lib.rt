@@ -2,10 +2,12 @@
 #![tactic(auto)]
 
 ghost use Rattle.std.specs.Prelude.{◌≤◌, ◌<◌, ◌≡◌, ◌++◌, length, take, drop, IfOk, OnOk, IfErr, OnErr};
+ghost use Rattle.std.specs.Fn.{FnOnceReturnsAt};
 ghost use Rattle.std.specs.Io.KnownBytes.{Appends, Consumes, IsAtEnd, Keeps};
 ghost use Rattle.io.specs.Counts.{IsPrefixLen};
 ghost use Rattle.meaning.specs.Means.{named};
 ghost use Rattle.print.specs.Line.{written};
+ghost use Rattle.console.specs.Answered.{AnsweredBy};
 ghost use Rattle.console.specs.Arguments.{request, told};
 ghost use Rattle.console.specs.Reading.{bytes_read};
 
@@ -58,6 +60,7 @@ pub fn read_text<R: Read>(from: &mut R, text: &mut [u8]) -> Result<usize, ReadEr
     ensures end { IfOk result (λ n. n < length text.old → IsAtEnd (R.remaining from.new)) }
 {
     let mut at = 0;
+    // Each read says how far the next begins, which no range does.
     while at < text.len() {
         match read_some(from, &mut text[at..]) {
             Ok(0) => return Ok(at),
@@ -106,6 +109,23 @@ impl Display for StreamError {
     }
 }
 
+// Reads a text and prints the answer that `check` gives to it. The buffer has one byte more than a text may have.
+pub fn answer<R: Read, W: Write, F: FnOnce(&[u8]) -> Answer>(
+    from: &mut R,
+    to: &mut W,
+    check: F,
+) -> Result<(), StreamError>
+    requires { F.IsAlwaysCallable check }
+    ensures { OnOk result (AnsweredBy (FnOnceReturnsAt F.FnOnce check) (R.remaining from.old) (R.remaining from.new) (W.contents to.old) (W.contents to.new)) }
+{
+    let mut text = [0u8; 65536];
+    let n = read_text(from, &mut text)?;
+    let mut lines = [0u8; ROOM];
+    let a = check(&text[..n]);
+    print(to, a, &mut lines)?;
+    Ok(())
+}
+
 // Why a call failed, in the system's words and without its number.
 #[derive(Clone, Copy, Debug)]
 pub struct Reason(pub Error);
@@ -125,8 +145,17 @@ impl Display for Reason {
 }
 
 // Says on standard error what went wrong, behind the program's name.
-pub fn complain<E: Write, D: Display + Drop>(errors: &mut E, name: &str, what: D) {
-    let _ = writeln!(errors, "{name}: {what}");
+pub fn complain<E: Write>(errors: &mut E, name: &[u8], what: &[u8]) {
+    let _ = errors.write_all(name);
+    let _ = errors.write_all(b": ");
+    let _ = errors.write_all(what);
+    let _ = errors.write_all(b"\n");
+}
+
+// The same of what is no bytes but can be shown.
+pub fn complain_of<E: Write, D: Display + Drop>(errors: &mut E, name: &[u8], what: D) {
+    let _ = errors.write_all(name);
+    let _ = writeln!(errors, ": {what}");
 }
 
 // Whether the program was given argument i, of which the first is its own name.
@@ -142,7 +171,8 @@ pub enum Request {
 }
 
 impl Request {
-    // What the argument asks for, if it is one of the two words.
+    // What the argument asks for, if it is one of the two words. No plainer as TryFrom: None is no error, but an argument that asks for
+    // something else.
     pub fn of(argument: &[u8]) -> Option<Request>
         ensures value { result ≡ request argument.now }
         ensures argument_unchanged { argument.exit.now ≡ argument.entry.now }
@@ -157,12 +187,15 @@ impl Request {
     }
 
     // Prints what is asked for: the help, or the program's name and version.
-    pub fn tell<W: Write>(self, to: &mut W, name: &str, help: &str) -> io::Result<()>
+    pub fn tell<W: Write>(self, to: &mut W, name: &[u8], help: &[u8]) -> io::Result<()>
         ensures { OnOk result (Appends (W.contents to.old) (W.contents to.new) (told self name.now help.now)) }
     {
         match self {
-            Request::Help => write!(to, "{help}"),
-            Request::Version => writeln!(to, "{name} 0.4"),
+            Request::Help => to.write_all(help),
+            Request::Version => {
+                to.write_all(name)?;
+                to.write_all(b" 0.4\n")
+            }
         }
     }
 }

@@ -72,25 +72,28 @@ fn read_next<R: Read>(from: &mut R, text: &mut [u8]) -> Result<Option<usize>, Fa
     Ok(Some(n))
 }
 
-// The answer to the next text, if there is one.
-fn next_text<R: Read>(from: &mut R) -> Result<Option<Answer>, Failure> {
+// The answer that `check` gives to the next text, if there is one.
+fn next_answer<R: Read, F: FnOnce(&[u8]) -> Answer>(
+    from: &mut R,
+    check: F,
+) -> Result<Option<Answer>, Failure>
+    requires { F.IsAlwaysCallable check }
+{
     let mut text = [0u8; 65536];
     let next = read_next(from, &mut text)?;
-    Ok(next.map(|n| verdict::check(&text[..n])))
+    Ok(next.map(|n| check(&text[..n])))
 }
 
-// The answer to a base and the next text as its job, if there is one.
-fn next_job<R: Read>(from: &mut R, base: &[u8]) -> Result<Option<Answer>, Failure> {
-    let mut job = [0u8; 65536];
-    let next = read_next(from, &mut job)?;
-    Ok(next.map(|n| verdict::check_job(base, &job[..n])))
+// The answer to the next text, if there is one.
+fn next_text<R: Read>(from: &mut R) -> Result<Option<Answer>, Failure> {
+    next_answer(from, verdict::check)
 }
 
 // The answer to the next pair, if there is one.
 fn next_pair<R: Read>(from: &mut R) -> Result<Option<Answer>, Failure> {
     let mut base = [0u8; 65536];
     match read_next(from, &mut base)? {
-        Some(n) => next_job(from, &base[..n]),
+        Some(n) => next_answer(from, |job| verdict::check_job(&base[..n], job)),
         None => Ok(None),
     }
 }
@@ -130,10 +133,10 @@ fn answer_file<F: Fn(&mut File) -> Result<Option<Answer>, Failure>>(
     match File::open(rt, path) {
         Ok(mut file) => {
             if let Err(failure) = print_all(rt, &mut file, next) {
-                console::complain(&mut errors, "corpus", failure);
+                console::complain_of(&mut errors, b"corpus", failure);
             }
         }
-        Err(error) => console::complain(&mut errors, path, Reason(error)),
+        Err(error) => console::complain_of(&mut errors, path.as_bytes(), Reason(error)),
     }
 }
 

@@ -44,6 +44,16 @@ module _ (held : List Held) (inputs : ℕ) where
       let m : n ≡ inputs + (n - inputs) = omega arith in
       subst (λ x. walked held inputs (n - inputs) (passed marks x (parents_held held x)) ≡ walked held inputs (n + 1 - inputs) marks) (sym m) (rw k)
 
+  pub walked_last : (n : ℕ) (marks : List Bool) → inputs ≤ n → n ≤ inputs → walked held inputs (n + 1 - inputs) marks ≡ passed marks n (parents_held held n)
+  unfolding walked
+  walked_last n marks h l =
+      let k : n + 1 - inputs ≡ 1 = omega arith in
+      let m : inputs + 0 ≡ n = omega arith in
+      rw (k, m)
+
   pub ended : (k : ℕ) (marks : List Bool) → k ≡ 0 → marks ≡ walked held inputs k marks
   unfolding walked
   ended k marks e = rw e
+
+-- What the loop asks: there is no such clause, its beginning, a clause further, the last clause, its end.
+pub ruleset walk = (past_walked, started, walked_on, walked_last, ended)

@@ -86,6 +86,7 @@ fn pass(marks: &mut [bool; LINES], n: usize, parents: Parents)
 }
 
 // The inputs, so many, from which clause `first` descends: those that are marked.
+#[tactic(auto, using(crate::proofs::Marks::walk))]
 pub fn rests(held: &[Held; LINES], inputs: usize, first: usize) -> [bool; LINES]
     ensures { result ≡ inputs_from held.now inputs first }
 {

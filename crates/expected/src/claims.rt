@@ -1,6 +1,6 @@
 // Check 11: what is expected in the claim. Each call takes what is left of the line and answers what is left after what it expects.
 // Terms nest at most `depth` deep.
-ghost use Rattle.std.specs.Prelude.{◌≡◌, length};
+ghost use Rattle.std.specs.Prelude.{◌≡◌};
 ghost use Rattle.text.specs.Answers.{passed};
 ghost use Rattle.clauses.specs.Shapes.{literals};
 ghost use Rattle.filling.specs.Items.{item_of, entries_of, compared};
@@ -38,30 +38,37 @@ fn filled<'r>(depth: u8, x: Filled<'_>, rest: &'r [u8]) -> Option<&'r [u8]>
 
 // The first of a clause's literals that stand after a space each: what is left of them, and of the claim.
 #[tactic(auto, unfolding(crate::specs::Claims::kept))]
-fn kept<'a, 'r>(depth: u8, literals: Filled<'a>, rest: &'r [u8]) -> Option<(&'a [u8], &'r [u8])>
+fn first_kept<'a, 'r>(
+    depth: u8,
+    literals: Filled<'a>,
+    rest: &'r [u8],
+) -> Option<(&'a [u8], &'r [u8])>
     ensures { compared result ≡ kept depth (item_of literals.entry) rest.now }
 {
     let literal = literals.beside(word(literals.item, b" ")?);
     stands(literal, item_depth(depth), word(rest, b" ")?)
 }
 
-// The first `count` literals of the clause but one, filled, each after a space.
-pub fn others<'r>(
-    depth: u8,
-    clause: Filled<'_>,
-    count: usize,
-    dropped: usize,
-    rest: &'r [u8],
-) -> Option<&'r [u8]>
-    ensures value { passed result ≡ others depth count dropped (item_of clause.entry) rest.now }
-    ensures clause_unchanged { (item_of clause.exit ≡ item_of clause.entry) × (rest.exit.now ≡ rest.entry.now) }
+// What the claim keeps of a parent: of so many literals of its clause all but one.
+#[derive(Clone, Copy, Debug, PartialEq, Eq)]
+pub struct Kept<'a> {
+    pub clause: Filled<'a>,
+    pub literals: usize,
+    pub dropped: usize,
+}
+
+// What is kept of a clause, filled, each literal after a space.
+#[tactic(auto, unfolding(crate::specs::Claims::others), using(clauses::proofs::Listing::after_word, crate::proofs::Others::others_steps))]
+pub fn others<'r>(depth: u8, of: Kept<'_>, rest: &'r [u8]) -> Option<&'r [u8]>
+    ensures value { passed result ≡ others depth of.entry.literals of.entry.dropped (item_of of.entry.clause) rest.now }
+    ensures of_unchanged { (of.exit ≡ of.entry) × (rest.exit.now ≡ rest.entry.now) }
 {
-    let mut literals = begin(clause.item).unwrap_or(&[]);
+    let mut literals = begin(of.clause.item).unwrap_or(&[]);
     let mut left = rest;
-    for n in 0..count {
-        if n != dropped {
-            (literals, left) = kept(depth, clause.beside(literals), left)?;
-        } else if n + 1 < count {
+    for n in 0..of.literals {
+        if n != of.dropped {
+            (literals, left) = first_kept(depth, of.clause.beside(literals), left)?;
+        } else if n + 1 < of.literals {
             literals = pass(literals)?;
         }
     }
@@ -69,6 +76,7 @@ pub fn others<'r>(
 }
 
 // A literal of two terms: its head with the space in front, the terms, filled, and two closing brackets.
+// Five parameters: its terms are of two clauses, and head and rest are bytes; a struct for two private calls would say no more.
 #[tactic(auto, unfolding(crate::specs::Claims::linked))]
 fn linked<'r>(
     depth: u8,
@@ -112,25 +120,21 @@ pub fn equated<'r>(
     linked(depth, b" (+ (eq ", left, right, rest)
 }
 
-// A literal with a term of another clause in place of one of its own, which is given by the bytes from where it begins.
+// A literal with a term of another clause in place of one of its own.
 #[tactic(auto, unfolding(crate::specs::Claims::rewritten, crate::specs::Claims::in_claim))]
 pub fn rewritten<'r>(
     depth: u8,
     literal: Filled<'_>,
-    hole: &[u8],
-    new: Filled<'_>,
+    replaced: Replaced<'_>,
     rest: &'r [u8],
 ) -> Option<&'r [u8]>
-    ensures value { passed result ≡ rewritten depth (item_of literal.entry) (length hole.now) (item_of new.entry) rest.now }
-    ensures literal_unchanged { (item_of literal.exit ≡ item_of literal.entry) × (item_of new.exit ≡ item_of new.entry) }
-    ensures rest_unchanged { (hole.exit.now ≡ hole.entry.now) × (rest.exit.now ≡ rest.entry.now) }
+    ensures value { passed result ≡ rewritten depth (item_of literal.entry) replaced.entry.hole (item_of replaced.entry.new) rest.now }
+    ensures literal_unchanged { (item_of literal.exit ≡ item_of literal.entry) × (replaced.exit ≡ replaced.entry) }
+    ensures rest_unchanged { rest.exit.now ≡ rest.entry.now }
 {
     let filling = Filling {
         entries: literal.listed(),
-        replaced: Some(Replaced {
-            hole: hole.len(),
-            new,
-        }),
+        replaced: Some(replaced),
     };
     let (_, left) = expect(&filling, literal.item, hole_depth(depth), word(rest, b" ")?)?;
     Some(left)

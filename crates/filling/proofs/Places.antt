@@ -1,6 +1,6 @@
 -- The same over places: the bytes of a clause and a place in it, a line and the places of the entries of a list in it. A list without
 -- places fills a clause without variables.
-use Rattle.std.specs.Prelude.{ℕ, ◌+◌, ◌-◌, Bool, cond, List, eqb, leb, length, drop}
+use Rattle.std.specs.Prelude.{ℕ, ◌+◌, ◌-◌, Bool, cond, List, eqb, length, drop}
 use Rattle.text.specs.Read.{Parsed, bad, got, Reader}
 use Rattle.text.proofs.Places.{entry_of}
 use Rattle.filling.specs.Filled.{Filler, fill_item}
@@ -31,7 +31,3 @@ pub record Ends : Type 0 where
 unfoldable pub ends_of : List ℕ → List ℕ → Parsed (List ℕ) → Ends
 ends_of s t bad = record { at = length s + 1; pos = length t + 1 }
 ends_of s t (got left rest) = record { at = length s - length rest; pos = length t - length left }
-
--- The two places, where both are places of their texts.
-unfoldable pub ends_at : List ℕ → ℕ → List ℕ → ℕ → Ends
-ends_at s i t j = cond (leb i (length s)) (cond (leb j (length t)) (record { at = i; pos = j }) (ends_of s t bad)) (ends_of s t bad)

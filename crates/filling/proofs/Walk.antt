@@ -1,24 +1,20 @@
 -- Walking over an item while its filled bytes are matched: the steps of `fill_item`, of the inside, and where it ends.
-use mathlib.Core.Logic.{◌⊎◌, inl, inr}
-use Prim.Native.Nat.{ℕ, zero, suc, ◌-◌, ◌≤◌, ◌<◌}
-use mathlib.Core.Path.{◌≡◌, refl, sym, ◌∙◌, ap₂}
+use Prim.Native.Nat.{ℕ, zero, suc, ◌-◌, ◌<◌}
+use mathlib.Core.Path.{◌≡◌, refl, ◌∙◌, ap₂}
 use mathlib.Core.Bool.{Bool, true, false, cond}
 use mathlib.Core.List.{List, [], ◌∷◌, ◌++◌}
 use native.Mathlib.Omega.{arith}
-use lib.Dec.{eqb, leb}
-use lib.ListN.{length, drop, length-drop, drop_of_length-le}
-use borrow.Author.Tests.{eq-eqb, ne_eqb, leb-true, leb-false}
+use lib.Dec.{eqb}
+use lib.ListN.{length}
+use borrow.Author.Tests.{eq-eqb, ne_eqb}
 use Rattle.text.specs.Read.{Parsed, bad, got, Reader, and_then, one_of, strip}
-use Rattle.text.proofs.Places.{end_of}
 use Rattle.text.specs.Access.{skip_item}
 use Rattle.text.proofs.Tests.{on_test}
 use Rattle.text.proofs.Gives.{Gives, nothing, gives, weaken, bind, none, branch, one_of_meets}
 use Rattle.text.proofs.Number.{number_sound}
 use Rattle.text.proofs.Plain.{number_plain}
-use Rattle.text.proofs.Positions.{End, Tail, end_refl, end_trans, end_cons, end_drop, strip_tail, sound_tail, closing_tail}
-use Rattle.filling.proofs.Places.{Ends}
+use Rattle.text.proofs.Positions.{End, Tail, end_refl, end_trans, end_cons, strip_tail, sound_tail, closing_tail}
 use Rattle.filling.specs.Filled.{Filler, prefixed, inside_up_to, inside, read_index, indexed, instead, fill_item, matches, along}
-use Rattle.filling.proofs.Places.{ends_of}
 
 -- The steps of filling.
 module _ (f : Filler) where
@@ -51,22 +47,6 @@ module _ (f : Filler) where
     unfolding fill_item one_of
     fill_other zero h e g = absurd (omega arith)
     fill_other (suc d) h e g = rw (ne_eqb _ _ apart, e, g)
-
-pub le_or_lt : (a b : ℕ) → (a ≤ b) ⊎ (b < a)
-le_or_lt a b = go (leb a b) refl
-  where
-    go : (t : Bool) → leb a b ≡ t → (a ≤ b) ⊎ (b < a)
-    go true e = inl (leb-true a b e)
-    go false e = inr (leb-false a b e)
-
--- A word that stands at a place stands within the text.
-pub somewhere : (p : List ℕ) (at b : ℕ) (w : List ℕ) → end_of p (strip (b ∷ w) (drop at p)) ≤ length p → at < length p
-unfolding end_of strip
-somewhere p at b w h = go (le_or_lt (length p) at)
-  where
-    go : (length p ≤ at) ⊎ (at < length p) → at < length p
-    go (inl l) = absurd (omega (arith, rw (drop_of_length-le p l) at h))
-    go (inr l) = l
 
 -- A reader that takes at least one byte.
 pub record Less (bs rest : List ℕ) : Type 0 where
@@ -181,22 +161,6 @@ matching_shortens {item} s = record { shortens = λ ps ts. go ps ts (s.shrinks p
     go : (ps ts : List ℕ) {x : Parsed (List ℕ)} → Gives (λ _ rest. Less ps rest) x → Gives (λ left rest. Both ps ts left rest) (matches x ts)
     go ps ts nothing = nothing
     go ps ts (gives {a = w} l) = bind ((strip_tail w).tail ts) (λ _ left e. gives (record { first = l; second = e }))
-
--- Where it ends.
-pub data Landed (item : Pair) (p t : List ℕ) (i j : ℕ) (e : Ends) : Type 0 where
-  missed : item (drop i p) (drop j t) ≡ bad → length p < e.at → length t < e.pos → Landed item p t i j e
-  landed : item (drop i p) (drop j t) ≡ got (drop e.pos t) (drop e.at p) → i < e.at → e.at ≤ length p → e.pos ≤ length t → Landed item p t i j e
-
-module _ {item : Pair} (s : Shortens item) (p t : List ℕ) (i j : ℕ) where
-  land_item : {x : Parsed (List ℕ)} → item (drop i p) (drop j t) ≡ x → Gives (λ left rest. Both (drop i p) (drop j t) left rest) x → Landed item p t i j (ends_of p t x)
-  unfolding ends_of
-  land_item e nothing = missed e (omega arith) (omega arith)
-  land_item e (gives {a = left} {rest} b) =
-      let n = length-drop i p in
-      landed (e ∙ ap₂ got (sym (end_drop t j left b.second)) (sym (end_drop p i rest b.first.tail))) (omega (arith, b.first.less)) (omega arith) (omega arith)
-
-  pub land : {e : Ends} → e ≡ ends_of p t (item (drop i p) (drop j t)) → Landed item p t i j e
-  land q = rw q (land_item refl (s.shortens (drop i p) (drop j t)))
 
 -- The steps of an inside.
 module _ (item : Reader (List ℕ)) (k b : ℕ) (bs : List ℕ) where

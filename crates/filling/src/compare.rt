@@ -26,7 +26,7 @@ pub fn hole_depth(depth: u8) -> usize
 }
 
 // An item at the front of a clause's bytes, and the entries of the list that fills the clause; None where the clause has no variables.
-#[derive(Clone, Copy)]
+#[derive(Clone, Copy, Debug, PartialEq, Eq)]
 pub struct Filled<'a> {
     pub item: &'a [u8],
     pub entries: Option<&'a [&'a [u8]]>,
@@ -53,15 +53,16 @@ impl<'a> Filled<'a> {
     }
 }
 
-// The item from which so many bytes are left to the end of its clause is replaced by one of another clause.
-#[derive(Clone, Copy)]
+// The item from which so many bytes are left to the end of its clause is replaced by one of another clause. It is told by their number, for
+// `==` tells bytes and not where they stand.
+#[derive(Clone, Copy, Debug, PartialEq, Eq)]
 pub struct Replaced<'a> {
     pub hole: usize,
     pub new: Filled<'a>,
 }
 
 // What fills a clause: the entries of a list, and what takes the place of one of its items, if any.
-#[derive(Clone, Copy)]
+#[derive(Clone, Copy, Debug, PartialEq, Eq)]
 pub struct Filling<'a> {
     pub entries: &'a [&'a [u8]],
     pub replaced: Option<Replaced<'a>>,
@@ -88,7 +89,7 @@ impl<'a> Filling<'a> {
     }
 }
 
-// The bytes after this one, if the text begins with it.
+// The bytes after this one, if the text begins with it; `word` would have to be given a slice of one byte.
 #[tactic(auto, unfolding(text::specs::Read::strip))]
 pub fn past(text: &[u8], byte: u8) -> Option<&[u8]>
     ensures value { passed result ≡ strip (byte ∷ []) text.now }
@@ -108,7 +109,7 @@ pub fn index(s: &[u8]) -> Option<(usize, &[u8])>
     Some((n, past(rest, b')')?))
 }
 
-// Entry n of a list; one past the last is empty.
+// Entry n of a list; one past the last is empty, and stands for nothing: an Option would be turned into no bytes by each caller.
 pub fn entry<'e>(entries: &[&'e [u8]], n: usize) -> &'e [u8]
     ensures value { result.now ≡ get_or (texts entries.now) n [] }
     ensures entries_unchanged { entries.exit.now ≡ entries.entry.now }

@@ -8,16 +8,15 @@ ghost use Rattle.meaning.specs.Answer.{jointly};
 ghost use Rattle.console.specs.Answered.{Answered};
 
 use console::{Reason, Request, StreamError};
-use print::ROOM;
 use std::env::Env;
 use std::fs::File;
 use std::io;
 use std::io::{Error, Read, Write};
 use std::str::from_utf8;
 
-const NAME: &str = "fjob";
+const NAME: &[u8] = b"fjob";
 
-const HELP: &str = "usage: fjob BASE < JOB
+const HELP: &[u8] = b"usage: fjob BASE < JOB
 Checks an F-logic derivation in two parts, the base in the file BASE and the job on standard input.
 If the base alone is refused, the answer is its own. Otherwise it is that of the two in a row, with
 lines and clauses counted through both. The answers are those of fcheck (fcheck --help).
@@ -54,15 +53,10 @@ fn read_base(rt: &HostRuntime, path: &str, base: &mut [u8]) -> io::Result<usize>
 fn check_job<I: Read, O: Write>(base: &[u8], from: &mut I, to: &mut O) -> Result<(), StreamError>
     ensures { OnOk result ((job : List ℕ) × Answered (I.remaining from.old) (I.remaining from.new) (O.contents to.old) (O.contents to.new) job (jointly office base.now job)) }
 {
-    let mut job = [0u8; 65536];
-    let n = console::read_text(from, &mut job)?;
-    let mut lines = [0u8; ROOM];
-    let answer = verdict::check_job(base, &job[..n]);
-    console::print(to, answer, &mut lines)?;
-    Ok(())
+    console::answer(from, to, |job| verdict::check_job(base, job))
 }
 
-// The base, and then the job. Each buffer has one byte more than a text may have.
+// The base, and then the job. The buffer has one byte more than a text may have.
 fn check_over<'a>(rt: &HostRuntime, path: &'a str) -> Result<(), Failure<'a>> {
     let mut base = [0u8; 65536];
     let n = read_base(rt, path, &mut base).map_err(|error| Failure::Base(path, error))?;
@@ -95,26 +89,25 @@ fn run<'a>(rt: &HostRuntime, argument: &'a mut [u8]) -> Result<(), Failure<'a>> 
     answer(rt, &argument[..n])
 }
 
-// Says on standard error why there is no answer.
+// Says on standard error why there is no answer. It is no Display, for a name that is not UTF-8 is printed as the bytes that it is.
 fn report(rt: &HostRuntime, failure: Failure) {
     let mut errors = rt.stderr();
     match failure {
         Failure::Usage => console::complain(
             &mut errors,
             NAME,
-            "the base's file is the only argument, and the job is read from standard input (fjob --help)",
+            b"the base's file is the only argument, and the job is read from standard input (fjob --help)",
         ),
-        Failure::NameTooLong => console::complain(&mut errors, NAME, "BASE: File name too long"),
+        Failure::NameTooLong => console::complain(&mut errors, NAME, b"BASE: File name too long"),
         Failure::NameNotText(name) => {
             let _ = errors.write_all(b"fjob: ");
-            let _ = errors.write_all(name);
-            let _ = errors.write_all(b": the name of the file is not UTF-8\n");
+            console::complain(&mut errors, name, b"the name of the file is not UTF-8");
         }
         Failure::Base(path, error) => {
             let reason = Reason(error);
-            console::complain(&mut errors, NAME, format_args!("{path}: {reason}"));
+            console::complain_of(&mut errors, NAME, format_args!("{path}: {reason}"));
         }
-        Failure::Stream(error) => console::complain(&mut errors, NAME, error),
+        Failure::Stream(error) => console::complain_of(&mut errors, NAME, error),
     }
 }
 

@@ -74,7 +74,7 @@ impl Check {
     ghost use Rattle.std.specs.Prelude.{◌≡◌, cond};
     ghost use Rattle.logic.specs.StepChecks.{check_number};
 
-    // Its number.
+    // Its number: a name that says more than `usize::from`.
     #[tactic(auto, unfolding(crate::specs::StepChecks::check_number))]
     pub fn number(self) -> usize
         ensures { result ≡ check_number self }

@@ -11,7 +11,7 @@ pub enum Verdict {
     Refuted { count: usize, first: usize },
     // Accepted, and no clause is empty: the number of clauses.
     Open { count: usize },
-    // The first failing check of the first failing line, and that line.
+    // The first failing check of the first failing line, and that line; 0 where what fails is of no line.
     Refused { check: Check, line: usize },
 }
 

@@ -57,7 +57,8 @@ fn put_verdict(v: Verdict, out: &mut [u8]) -> usize
     }
 }
 
-// Puts a space and a number for each mark at the start of out, and answers how many bytes were put.
+// Puts a space and a number for each mark at the start of out, and answers how many bytes were put. One loop for this and for `put_numbers`
+// would go over any iterator, and could only promise what that one gives.
 fn put_marked(marks: &[bool; LINES], out: &mut [u8]) -> usize
     ensures { Wrote (spaced (named marks.now)) out.old result out.new }
 {
@@ -70,7 +71,8 @@ fn put_marked(marks: &[bool; LINES], out: &mut [u8]) -> usize
     end
 }
 
-// Puts the line of the marked numbers at the start of out, and answers how many bytes were put.
+// Puts the line of the marked numbers at the start of out, and answers how many bytes were put. It is no case of `put_line`: a slice of the
+// marked numbers would have to be made first, and a function over the middle part would share two calls.
 fn put_rests(marks: &[bool; LINES], out: &mut [u8]) -> usize
     ensures { Wrote (word_line (bytes "rests") (named marks.now)) out.old result out.new }
 {

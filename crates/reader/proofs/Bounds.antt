@@ -1,11 +1,13 @@
 -- What is taken of the parts of a text with any join that is associative and has a unit, and the bounds that the reader takes so.
-use Prim.Native.Nat.{ℕ, max}
+use Prim.Native.Nat.{ℕ, ◌+◌, max}
 use mathlib.Core.Path.{◌≡◌, refl, sym, ◌∙◌, ap, ap₂}
-use mathlib.Core.Bool.{Bool, true, false, ◌&&◌}
+use mathlib.Core.Bool.{Bool, true, false, cond, ◌&&◌}
 use mathlib.Core.List.{List, [], ◌∷◌}
 use native.Mathlib.Omega.{arith}
+use native.Mathlib.Numerals.{add-one}
 use borrow.Author.Tests.{le-leb}
-use lib.Dec.{leb, ltb, leb→le, le→leb}
+use lib.Dec.{leb, ltb, eqb, leb→le, le→leb, eqb-suc-zero}
+use Rattle.std.proofs.lemmas.Bool.Decides.{nat_tests}
 use Rattle.logic.specs.Syntax.{Term, var, app, Terms, nil, cons, Part, part, Atom, link, obj, arrows, lit, Clause}
 use Rattle.logic.specs.Terms.{count, join, result_terms, part_terms, terms_of}
 use Rattle.logic.specs.Each.{any, declares, each_term, each_terms, each_atom, each_clause, term_width, terms_width, width}
@@ -32,11 +34,11 @@ and_assoc false b c = refl
 pub bounds_lawful : Lawful no_bounds joined
 unfolding joined
 bounds_lawful = let w = max_lawful in record {
-  left = λ a i. bounds_of (w.left a.width i) (w.left a.arguments i) a.declared;
-  right = λ a i. bounds_of (w.right a.width i) (w.right a.arguments i) (and_true a.declared i);
+  left = λ a i. bounds_of (w.left a.width i) (w.left a.arguments i) (w.left a.unknown i);
+  right = λ a i. bounds_of (w.right a.width i) (w.right a.arguments i) (w.right a.unknown i);
   assoc = λ a b c i.
       bounds_of (w.assoc a.width b.width c.width i) (w.assoc a.arguments b.arguments c.arguments i)
-      (and_assoc a.declared b.declared c.declared i);
+      (w.assoc a.unknown b.unknown c.unknown i);
 }
 
 -- What is taken tells what a function gives of terms, lists of terms and clauses: the function joins what it gives of their parts, and a
@@ -133,11 +135,20 @@ each_told p s z j v f a = record {
 }
 
 -- Whether every applied symbol is declared.
+pub none_unknown : (a b : ℕ) → eqb (max a b) 0 ≡ eqb a 0 && eqb b 0
+none_unknown a b = grind (arith, nat_tests)
+
+unless_known : (f : ℕ) (known : Bool) → eqb (cond known 0 (f + 1)) 0 ≡ known
+unless_known f true = refl
+unless_known f false = rw add-one (eqb-suc-zero f)
+
 pub declared_told : (table : List ℕ)
-    → Tells (bounds table) (λ b. b.declared) (each_term any (declares table)) (each_terms any (declares table))
+    → Tells (bounds table) (λ b. eqb b.unknown 0) (each_term any (declares table)) (each_terms any (declares table))
     (each_clause any (declares table))
 unfolding joined
-declared_told table = each_told any (declares table) refl (λ a b. refl) (λ n. refl) (λ f n. refl) (λ n. refl)
+declared_told table =
+    each_told any (declares table) refl (λ a b. none_unknown a.unknown b.unknown) (λ n. refl) (λ f n. unless_known f (declares table f n))
+    (λ n. refl)
 
 -- Whether every variable is below n.
 pub leb_max : (a b n : ℕ) → leb (max a b) n ≡ leb a n && leb b n

@@ -1,11 +1,12 @@
 -- Items after one space each, up to the closing bracket, read and measured in one loop.
-use Rattle.std.proofs.Common.{◌≡◌, ℕ, suc, ◌+◌, ◌<◌, ◌≤◌, List, [], ◌∷◌, length, refl, sym, ◌∙◌, ap, ap₂, arith}
+use Rattle.std.proofs.Common.{◌≡◌, ℕ, suc, ◌+◌, List, [], ◌∷◌, length, refl, sym, ◌∙◌, ap, ap₂, arith}
 use Rattle.reader.specs.declared.measures.Bounds.{Bounds}
 use Rattle.reader.specs.declared.measures.Measure.{Measure}
 use Rattle.text.specs.Words.{bytes}
-use Rattle.text.specs.Read.{Parsed, bad, got, Reader, and_then, return, strip, ◌⇒◌, or_else, one_of, read_next, read_many}
+use Rattle.text.specs.Read.{Parsed, bad, got, Reader, and_then, return, strip, ◌⇒◌, or_else, one_of, read_next}
 use Rattle.text.specs.Answers.{mapped}
 use Rattle.reader.specs.Summary.{joined, measured, empty}
+use Rattle.reader.specs.Listed.{before, Listed}
 use Rattle.text.proofs.Gives.{strip_gives, given}
 use Rattle.reader.proofs.Bounds.{bounds_lawful}
 
@@ -25,95 +26,89 @@ no_space_next {A} {S} none more read others bs e = go (strip (bytes ")") bs) _
     go bad r = rw e
     go (got u rest) r = refl
 
--- Of what was measured: nothing was read, or a value of this measure.
-pub unmeasured : {A M : Type 0} (f : A → M) (p : Parsed A) → bad ≡ mapped f p → p ≡ bad
-unmeasured f bad h = refl
-unmeasured f (got a rest) h = cc
-
+-- Of what was measured: a value of this measure was read.
 pub measuring : {A M : Type 0} (f : A → M) {m : M} {rest : List ℕ} (p : Parsed A) → got m rest ≡ mapped f p
     → (a : A) × (p ≡ got a rest) × (m ≡ f a)
 measuring f bad h = cc
 measuring f (got a r) h = (a, cc, cc)
 
-same_mapped : {A M : Type 0} {f g : A → M} → ((a : A) → f a ≡ g a) → (p : Parsed A) → mapped f p ≡ mapped g p
-same_mapped h bad = refl
-same_mapped h (got a rest) = rw (h a)
+-- What is read of items, measured, is what is read of their measures.
+pub mapped_next : {A S : Type 0} (none : S) (more : A → S → S) (read : Reader A) (others : Reader S) (item : A → Bounds) (list : S → Measure)
+    → list none ≡ empty → ((a : A) (x : S) → list (more a x) ≡ before (item a) (list x)) → (bs : List ℕ)
+    → mapped list (read_next none more read others bs)
+    ≡ read_next empty before (λ bs. mapped item (read bs)) (λ bs. mapped list (others bs)) bs
+unfolding read_next one_of
+mapped_next {A} {S} none more read others item list n m bs =
+    closed (strip (bytes ")") bs) (one_of ((" " ⇒ onward) ∷ [])) (one_of ((" " ⇒ measured_onward) ∷ [])) (spaced (strip (bytes " ") bs))
+  where
+    onward : Reader S
+    onward bs = and_then (read bs) (λ a bs. and_then (others bs) (λ x. return (more a x)))
+
+    measured_onward : Reader Measure
+    measured_onward bs = and_then (mapped item (read bs)) (λ b bs. and_then (mapped list (others bs)) (λ x. return (before b x)))
+
+    joins : (a : A) (p : Parsed S)
+        → mapped list (and_then p (λ x. return (more a x))) ≡ and_then (mapped list p) (λ x. return (before (item a) x))
+    joins a bad = refl
+    joins a (got x rest) = rw (m a x)
+
+    reads : (p : Parsed A) → mapped list (and_then p (λ a bs. and_then (others bs) (λ x. return (more a x))))
+        ≡ and_then (mapped item p) (λ b bs. and_then (mapped list (others bs)) (λ x. return (before b x)))
+    reads bad = refl
+    reads (got a rest) = joins a (others rest)
+
+    spaced : (p : Parsed (Unit {0})) → mapped list (or_else p onward (one_of []) bs) ≡ or_else p measured_onward (one_of []) bs
+    spaced bad = refl
+    spaced (got u rest) = reads (read rest)
+
+    closed : (p : Parsed (Unit {0})) (q : Reader S) (r : Reader Measure) → mapped list (q bs) ≡ r bs
+        → mapped list (or_else p (return none) q bs) ≡ or_else p (return empty) r bs
+    closed bad q r h = h
+    closed (got u rest) q r h = ap (λ v. got v rest) n
 
 -- Parts of one measure on the left of parts of another.
-abbrev pub beside : Measure → Measure → Measure
+abbrev beside : Measure → Measure → Measure
 beside m n = measured (m.count + n.count) (joined m.bounds n.bounds)
 
--- Items in a list, their reader, and the measures of an item and of a list.
-pub record Listed (A S : Type 0) : Type 0 where
-  pub none : S
-  pub more : A → S → S
-  pub read : Reader A
-  pub item : A → Bounds
-  pub list : S → Measure
-  pub step : (bs : List ℕ) → read_many none more read bs ≡ read_next none more read (read_many none more read) bs
-  pub shrinks : (bs : List ℕ) {a : A} {rest : List ℕ} → read bs ≡ got a rest → length rest ≤ length bs
-  pub on_none : list none ≡ empty
-  pub on_more : (a : A) (x : S) → list (more a x) ≡ measured (suc (list x).count) (joined (item a) (list x).bounds)
+-- One byte less is left.
+pub one_less : (b : ℕ) (s : List ℕ) {rest : List ℕ} → got tt rest ≡ strip (b ∷ []) s → length s ≡ suc (length rest)
+one_less b s e = ap length (given (strip_gives (b ∷ []) s) (sym e))
 
-module _ {A S : Type 0} (L : Listed A S) where
-  abbrev read_all : Reader S
-  read_all = read_many L.none L.more L.read
+-- In the loop: items of measure m have been read of s, and the rest is left.
+pub record Going (all : Reader Measure) (s rest : List ℕ) (m : Measure) : Type 0 where
+  pub reads : all s ≡ mapped (beside m) (all rest)
 
-  -- In the loop: items of measure m have been read of s, and the rest is left.
-  pub record Going (s rest : List ℕ) (m : Measure) : Type 0 where
-    pub reads : mapped L.list (read_all s) ≡ mapped (λ x. beside m (L.list x)) (read_all rest)
-    pub few : m.count + length rest ≤ length s
+pub start : (all : Reader Measure) (s : List ℕ) → Going all s s empty
+start all s = record { reads = go (all s) }
+  where
+    go : (p : Parsed Measure) → p ≡ mapped (beside empty) p
+    go bad = refl
+    go (got m rest) = ap (λ v. got v rest) (ap₂ measured (omega arith) (sym (bounds_lawful.left m.bounds)))
 
-  pub start : (s : List ℕ) → Going s s empty
-  start s = record {
-    reads = same_mapped (λ x. ap₂ measured (omega arith) (sym (bounds_lawful.left (L.list x).bounds))) (read_all s);
-    few = omega arith;
-  }
+module _ {one : Reader Bounds} {all : Reader Measure} (L : Listed one all) {s rest : List ℕ} {m : Measure} (g : Going all s rest m) where
+  module _ {next : List ℕ} (spaced : got tt next ≡ strip (bytes " ") rest) where
+    onto : all rest ≡ and_then (one next) (λ b bs. and_then (all bs) (λ x. return (before b x)))
+    onto = L.step rest ∙ space_next empty before one all rest (sym spaced)
 
-  module _ {s rest : List ℕ} {m : Measure} (g : Going s rest m) where
-    module _ {next : List ℕ} (spaced : got tt next ≡ strip (bytes " ") rest) where
-      shorter : length rest ≡ suc (length next)
-      shorter = ap length (given (strip_gives (bytes " ") rest) (sym spaced))
+    pub lost : bad ≡ one next → bad ≡ all s
+    lost e = sym (g.reads ∙ rw (onto, ← e))
 
-      onto : read_all rest ≡ and_then (L.read next) (λ a bs. and_then (read_all bs) (λ x. return (L.more a x)))
-      onto = L.step rest ∙ space_next L.none L.more L.read read_all rest (sym spaced)
+    pub turn : {b : Bounds} {after : List ℕ} {n : Measure} → got b after ≡ one next → n ≡ measured (m.count + 1) (joined m.bounds b)
+        → Going all s after n
+    turn {b} {after} e h = record { reads = g.reads ∙ rw (onto, ← e, h) (go (all after)) }
+      where
+        go : (p : Parsed Measure) → mapped (beside m) (and_then p (λ x. return (before b x)))
+            ≡ mapped (beside (measured (m.count + 1) (joined m.bounds b))) p
+        go bad = refl
+        go (got x rest) = ap (λ v. got v rest) (ap₂ measured (omega arith) (bounds_lawful.assoc m.bounds b x.bounds))
 
-      pub within : m.count + 1 ≤ length s
-      within = omega (arith, shorter, g.few)
+  module _ (spaced : bad ≡ strip (bytes " ") rest) where
+    onto_end : all rest ≡ and_then (strip (bytes ")") rest) (λ _. return empty)
+    onto_end = L.step rest ∙ no_space_next empty before one all rest (sym spaced)
 
-      pub lost : bad ≡ mapped L.item (L.read next) → bad ≡ mapped L.list (read_all s)
-      lost e = sym (g.reads ∙ rw (onto, unmeasured L.item (L.read next) e))
+    pub unclosed : bad ≡ strip (bytes ")") rest → bad ≡ all s
+    unclosed e = sym (g.reads ∙ rw (onto_end, ← e))
 
-      module _ {b : Bounds} {after : List ℕ} (e : got b after ≡ mapped L.item (L.read next)) where
-        pub smaller : length after < length rest
-        smaller = let (a, p, q) = measuring L.item (L.read next) e in omega (arith, shorter, L.shrinks next p)
-
-        pub turn : {n : Measure} → n ≡ measured (m.count + 1) (joined m.bounds b) → Going s after n
-        turn {n} h =
-            let (a, p, q) = measuring L.item (L.read next) e in
-            let k : n.count ≡ m.count + 1 = ap (λ (n : Measure). n.count) h in
-            record { reads = g.reads ∙ rw (onto, p, h) (go a q (read_all after)); few = omega (arith, shorter, g.few, L.shrinks next p) }
-          where
-            go : (a : A) → b ≡ L.item a → (p : Parsed S)
-                → mapped (λ x. beside m (L.list x)) (and_then p (λ x. return (L.more a x)))
-                ≡ mapped (λ x. beside (measured (m.count + 1) (joined m.bounds b)) (L.list x)) p
-            go a q bad = refl
-            go a q (got x r) =
-                rw (L.on_more a x, q)
-                (ap (λ v. got v r) (ap₂ measured (omega arith) (bounds_lawful.assoc m.bounds (L.item a) (L.list x).bounds)))
-
-    module _ (spaced : bad ≡ strip (bytes " ") rest) where
-      onto_end : read_all rest ≡ and_then (strip (bytes ")") rest) (λ _. return L.none)
-      onto_end = L.step rest ∙ no_space_next L.none L.more L.read read_all rest (sym spaced)
-
-      pub unclosed : bad ≡ strip (bytes ")") rest → bad ≡ mapped L.list (read_all s)
-      unclosed e = sym (g.reads ∙ rw (onto_end, ← e))
-
-      module _ {after : List ℕ} (e : got tt after ≡ strip (bytes ")") rest) where
-        pub finish : got m after ≡ mapped L.list (read_all s)
-        finish =
-            sym (g.reads ∙ rw (onto_end, ← e, L.on_none)
-            (ap (λ v. got v after) (ap₂ measured (omega arith) (bounds_lawful.right m.bounds))))
-
-        pub closed : m.count + length after ≤ length s
-        closed = let n : length rest ≡ suc (length after) = ap length (given (strip_gives (bytes ")") rest) (sym e)) in omega (arith, g.few)
+    pub finish : {after : List ℕ} → got tt after ≡ strip (bytes ")") rest → got m after ≡ all s
+    finish {after} e =
+        sym (g.reads ∙ rw (onto_end, ← e) (ap (λ v. got v after) (ap₂ measured (omega arith) (bounds_lawful.right m.bounds))))

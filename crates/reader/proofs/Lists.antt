@@ -1,27 +1,41 @@
 -- Terms and literals up to the closing bracket.
-use Rattle.std.proofs.Common.{◌≡◌, ℕ, suc, ◌≤◌, List, [], ◌∷◌, length, refl, sym, ◌∙◌}
+use Rattle.std.proofs.Common.{◌≡◌, ℕ, ◌≤◌, List, [], ◌∷◌, length, Option, Some, None, Bor, refl, sym, ◌∙◌, ap}
+use Rattle.std.specs.Prelude.{IfSome}
 use Rattle.logic.specs.Syntax.{Term, Terms, nil, cons, Literal, Clause}
 use Rattle.logic.specs.Terms.{count}
 use Rattle.text.specs.Write.{Writer}
-use Rattle.text.specs.Read.{got, Reader, strip, read_number, read_next, read_applied, read_term, read_terms, read_literal}
-use Rattle.reader.specs.Summary.{of_term, of_terms, of_literal, of_clause, symbol_bounds, joined, bounds, measured, empty, terms_measure, clause_measure}
+use Rattle.text.specs.Read.{got, Reader, strip, read_number, read_next, read_many, read_applied, read_term, read_terms, read_literal}
+use Rattle.reader.specs.declared.measures.Bounds.{Bounds}
+use Rattle.reader.specs.Summary.{of_term, of_terms, of_literal, of_clause, symbol_bounds, bounds, empty, terms_measure, clause_measure}
 use Rattle.text.proofs.Gives.{Sound, given}
 use Rattle.text.proofs.Plain.{Plain, put_grows, term_plain, literal_plain}
 use Rattle.text.proofs.Sound.{term_sound, literal_sound}
 use Rattle.text.proofs.Rest.{terms_step, clause_step}
-use Rattle.reader.proofs.Listing.{Listed}
+use Rattle.reader.specs.Listed.{before, Listed}
+use Rattle.reader.proofs.Listing.{measuring, mapped_next}
 use Rattle.text.proofs.Chain.{first_word}
 use Rattle.reader.proofs.Bounds.{bounds_lawful}
 use Rattle.logic.specs.Each.{declares}
 use Rattle.text.specs.Words.{bytes}
-use Rattle.text.specs.Answers.{mapped}
+use Rattle.text.specs.Answers.{parsed, mapped}
 
-pub shrinks : {A : Type 0} {put : A → Writer} {F : A → Type 0} {read : Reader A} → Sound put F read → ((a : A) → Plain (put a))
-    → (bs : List ℕ) {a : A} {rest : List ℕ} → read bs ≡ got a rest → length rest ≤ length bs
-shrinks sound plain bs {a} {rest} e = rw ((given (sound.at bs) e).0) (put_grows (plain a) rest)
+-- An item that was read and measured leaves no more bytes than there were.
+no_longer : {A M : Type 0} {put : A → Writer} {F : A → Type 0} {read : Reader A} → Sound put F read → ((a : A) → Plain (put a)) → (f : A → M)
+    (bs : List ℕ) (r : Option (M × Bor (List ℕ))) → parsed r ≡ mapped f (read bs) → IfSome r (λ p. length p.1.now ≤ length bs)
+no_longer sound plain f bs None e = tt
+no_longer {read = read} sound plain f bs (Some p) e =
+    let (a, q, _) = measuring f (read bs) e in rw ((given (sound.at bs) q).0) (put_grows (plain a) p.1.now)
+
+pub term_no_longer : (d : ℕ) (table bs : List ℕ) (r : Option (Bounds × Bor (List ℕ)))
+    → parsed r ≡ mapped (of_term (bounds table)) (read_term d bs) → IfSome r (λ p. length p.1.now ≤ length bs)
+term_no_longer d table = no_longer (term_sound d) term_plain (of_term (bounds table))
+
+pub literal_no_longer : (d : ℕ) (table bs : List ℕ) (r : Option (Bounds × Bor (List ℕ)))
+    → parsed r ≡ mapped (of_literal (bounds table)) (read_literal d bs) → IfSome r (λ p. length p.1.now ≤ length bs)
+literal_no_longer d table = no_longer (literal_sound d) literal_plain (of_literal (bounds table))
 
 pub terms_more : (table : List ℕ) (t : Term) (ts : Terms)
-    → terms_measure table (cons t ts) ≡ measured (suc (count ts)) (joined (of_term (bounds table) t) (of_terms (bounds table) ts))
+    → terms_measure table (cons t ts) ≡ before (of_term (bounds table) t) (terms_measure table ts)
 unfolding of_terms count
 terms_more table t ts = refl
 
@@ -29,39 +43,32 @@ pub terms_none : (table : List ℕ) → terms_measure table nil ≡ empty
 unfolding of_terms count
 terms_none table = refl
 
-pub clause_more : (table : List ℕ) (l : Literal) (c : Clause)
-    → clause_measure table (l ∷ c) ≡ measured (suc (length c)) (joined (of_literal (bounds table) l) (of_clause (bounds table) c))
+clause_more : (table : List ℕ) (l : Literal) (c : Clause)
+    → clause_measure table (l ∷ c) ≡ before (of_literal (bounds table) l) (clause_measure table c)
 unfolding of_clause
 clause_more table l c = refl
 
-pub clause_none : (table : List ℕ) → clause_measure table [] ≡ empty
+clause_none : (table : List ℕ) → clause_measure table [] ≡ empty
 unfolding of_clause
 clause_none table = refl
 
-abbrev pub term_list : ℕ → List ℕ → Listed Term Terms
+pub term_list : (d : ℕ) (table : List ℕ)
+    → Listed (λ bs. mapped (of_term (bounds table)) (read_term d bs)) (λ bs. mapped (terms_measure table) (read_terms (read_term d) bs))
 term_list d table = record {
-  none = nil;
-  more = cons;
-  read = read_term d;
-  item = of_term (bounds table);
-  list = terms_measure table;
-  step = terms_step d;
-  shrinks = shrinks (term_sound d) term_plain;
-  on_none = terms_none table;
-  on_more = terms_more table;
+  step = λ bs.
+      ap (mapped (terms_measure table)) (terms_step d bs)
+      ∙ mapped_next nil cons (read_term d) (read_terms (read_term d)) (of_term (bounds table)) (terms_measure table) (terms_none table)
+      (terms_more table) bs;
 }
 
-abbrev pub literal_list : ℕ → List ℕ → Listed Literal Clause
+pub literal_list : (d : ℕ) (table : List ℕ)
+    → Listed (λ bs. mapped (of_literal (bounds table)) (read_literal d bs))
+    (λ bs. mapped (clause_measure table) (read_many [] ◌∷◌ (read_literal d) bs))
 literal_list d table = record {
-  none = [];
-  more = ◌∷◌;
-  read = read_literal d;
-  item = of_literal (bounds table);
-  list = clause_measure table;
-  step = clause_step d;
-  shrinks = shrinks (literal_sound d) literal_plain;
-  on_none = clause_none table;
-  on_more = clause_more table;
+  step = λ bs.
+      ap (mapped (clause_measure table)) (clause_step d bs)
+      ∙ mapped_next [] ◌∷◌ (read_literal d) (read_many [] ◌∷◌ (read_literal d)) (of_literal (bounds table)) (clause_measure table)
+      (clause_none table) (clause_more table) bs;
 }
 
 -- The measures of lists of terms.
@@ -69,7 +76,7 @@ pub ruleset of_lists = (terms_none, terms_more)
 
 -- A symbol applied to no terms.
 pub constant : (table : List ℕ) (d : ℕ) (s : List ℕ) {n : ℕ} {mid rest : List ℕ} → got n mid ≡ read_number s → got tt rest ≡ strip (bytes ")") mid
-    → got (symbol_bounds (declares table n 0)) rest ≡ mapped (of_term (bounds table)) (read_applied (read_term d) s)
+    → got (symbol_bounds n (declares table n 0)) rest ≡ mapped (of_term (bounds table)) (read_applied (read_term d) s)
 unfolding read_applied read_next of_term count
 constant table d s {n} {mid} {rest} e f =
     let no_terms : read_terms (read_term d) mid ≡ got nil rest = terms_step d mid ∙ first_word ")" _ _ mid (sym f) in

@@ -3,7 +3,8 @@ use Rattle.std.proofs.Common.{◌≡◌, ℕ, List, Some, refl, sym, ◌∙◌, 
 use Rattle.std.specs.Bool.{then_some}
 use Rattle.logic.specs.Syntax.{Terms, Clause, Step, Line, by}
 use Rattle.reader.specs.declared.measures.Measure.{Measure}
-use Rattle.reader.specs.declared.forms.Head.{Head}
+use Rattle.logic.specs.declared.Rule.{Rule}
+use Rattle.rule_numbers.specs.declared.Numbers.{Numbers}
 use Rattle.reader.specs.declared.forms.ItemAt.{ItemAt}
 use Rattle.reader.specs.declared.forms.StepAt.{StepAt}
 use Rattle.reader.specs.declared.forms.LineAt.TheVariants.{By}
@@ -20,7 +21,7 @@ use Rattle.reader.proofs.Listing.{measuring}
 use Rattle.reader.proofs.Lines.{is_closed, ended}
 
 -- LET LET CLAUSE) after the head, each after one space.
-unfoldable pub step_body : ℕ → Head → Reader Line
+unfoldable pub step_body : ℕ → Rule × Numbers → Reader Line
 step_body depth h = do
   skip " "
   first ← read_let depth
@@ -29,7 +30,7 @@ step_body depth h = do
   skip " "
   claim ← read_clause depth
   skip ")"
-  return (by (record { rule = h.rule; a = h.a; i = h.i; b = h.b; j = h.j; k = h.k; first = first; second = second; claim = claim }))
+  return (by (record { rule = h.0; a = h.1.a; i = h.1.i; b = h.1.b; j = h.1.j; k = h.1.k; first = first; second = second; claim = claim }))
 
 after : {A B : Type 0} {f g : A → Reader B} (p : Parsed A) → ((a : A) (r : List ℕ) → f a r ≡ g a r) → and_then p f ≡ and_then p g
 after bad h = refl
@@ -62,12 +63,12 @@ abbrev item : ℕ → Measure → ItemAt
 item at m = record { start = at; measure = m }
 
 -- The step of a head, two lists and a claim.
-abbrev made : Head → ItemAt → ItemAt → ItemAt → StepAt
+abbrev made : Rule × Numbers → ItemAt → ItemAt → ItemAt → StepAt
 made h first second claim =
-    record { rule = h.rule; a = h.a; i = h.i; b = h.b; j = h.j; k = h.k; first = first; second = second; claim = claim }
+    record { rule = h.0; numbers = h.1; first = first; second = second; claim = claim }
 
 -- The parts of a step as they were read, each where the one before it ended, are the parts of the line.
-module _ (table line s : List ℕ) (d : ℕ) {h : Head} {s₁ s₂ s₃ s₄ s₅ s₆ s₇ : List ℕ} {m₁ m₂ m₃ : Measure} where
+module _ (table line s : List ℕ) (d : ℕ) {h : Rule × Numbers} {s₁ s₂ s₃ s₄ s₅ s₆ s₇ : List ℕ} {m₁ m₂ m₃ : Measure} where
   whole_step : (first second : Terms) (claim : Clause) → got h s₁ ≡ read_head s → got tt s₂ ≡ strip (bytes " ") s₁
       → read_let d s₂ ≡ got first s₃ → m₁ ≡ terms_measure table first → got tt s₄ ≡ strip (bytes " ") s₃
       → read_let d s₄ ≡ got second s₅ → m₂ ≡ terms_measure table second → got tt s₆ ≡ strip (bytes " ") s₅
@@ -77,7 +78,7 @@ module _ (table line s : List ℕ) (d : ℕ) {h : Head} {s₁ s₂ s₃ s₄ s�
   unfolding step_body line_of step_of from_first from_second from_clause
   whole_step first second claim e₁ e₂ p₁ q₁ e₄ p₂ q₂ e₆ p₃ q₃ =
       let st : Step =
-      record { rule = h.rule; a = h.a; i = h.i; b = h.b; j = h.j; k = h.k; first = first; second = second; claim = claim } in
+      record { rule = h.0; a = h.1.a; i = h.1.i; b = h.1.b; j = h.1.j; k = h.1.k; first = first; second = second; claim = claim } in
       rw (step_splits d s, ← e₁, ← e₂, p₁, ← e₄, p₂, ← e₆, p₃)
       (ended table line s₇ (by st) (λ z.
       let c : s₆ ≡ from_clause claim = (given ((clause_sound d).at s₆) p₃).0 ∙ ap (put_clause claim) (is_closed s₇ z) in

@@ -1,2 +1,3 @@
 pub mod Summary
 pub mod LineAt
+pub mod Listed

@@ -1,8 +1,9 @@
--- Nothing here is to be believed: it mirrors code on bytes; `line_seen` (crates/state/proofs/Held) says what it gives of a line.
+-- Nothing here is to be believed: it mirrors code on bytes; `line_sees` (crates/state/proofs/Held) says what it gives of a line.
 -- A line as the reader gives it: what it is, its numbers, and of its clause and lists where they begin and what they measure.
 use Rattle.std.specs.Prelude.{ℕ, ◌-◌, Bool, false, List, [], ◌∷◌, eqb, length, Option, Some, None}
 use Rattle.logic.specs.Syntax.{Clause, Step, sym, input, by}
-use Rattle.reader.specs.declared.forms.Head.{Head}
+use Rattle.logic.specs.declared.Rule.{Rule}
+use Rattle.rule_numbers.specs.declared.Numbers.{Numbers}
 use Rattle.reader.specs.declared.forms.StepAt.{StepAt}
 use Rattle.reader.specs.declared.forms.LineAt.{LineAt}
 use Rattle.reader.specs.declared.forms.LineAt.TheVariants.{Sym, Input, By}
@@ -16,7 +17,7 @@ unfoldable pub read_spaced : Reader ℕ
 read_spaced = skip " " >> read_number
 
 -- T9, RULE A I B J K.
-unfoldable pub read_head : Reader Head
+unfoldable pub read_head : Reader (Rule × Numbers)
 read_head = do
   rule ← read_rule
   a ← read_spaced
@@ -24,7 +25,7 @@ read_head = do
   b ← read_spaced
   j ← read_spaced
   k ← read_spaced
-  return (record { rule = rule; a = a; i = i; b = b; j = j; k = k })
+  return (rule, record { a = a; i = i; b = b; j = j; k = k })
 
 -- A closing bracket, and nothing after it.
 unfoldable pub closed : List ℕ → Bool
@@ -51,11 +52,7 @@ place_of s rest = length s - length rest
 unfoldable pub step_of : List ℕ → List ℕ → Step → StepAt
 step_of table s st = record {
   rule = st.rule;
-  a = st.a;
-  i = st.i;
-  b = st.b;
-  j = st.j;
-  k = st.k;
+  numbers = record { a = st.a; i = st.i; b = st.b; j = st.j; k = st.k };
   first = record { start = place_of s (from_first st); measure = terms_measure table st.first };
   second = record { start = place_of s (from_second st); measure = terms_measure table st.second };
   claim = record { start = place_of s (from_clause st.claim); measure = clause_measure table st.claim };

@@ -1,6 +1,6 @@
--- Nothing here is to be believed: it mirrors code on bytes; `line_seen` (crates/state/proofs/Held) says what it gives of a line.
+-- Nothing here is to be believed: it mirrors code on bytes; `line_sees` (crates/state/proofs/Held) says what it gives of a line.
 -- What reading a part in one pass tells of it: a measure of the value read.
-use Rattle.std.specs.Prelude.{ℕ, suc, max, Bool, true, ◌&&◌, List, [], ◌∷◌, length}
+use Rattle.std.specs.Prelude.{ℕ, suc, ◌+◌, max, Bool, cond, List, [], ◌∷◌, length}
 use Rattle.logic.specs.Syntax.{Term, var, app, Terms, nil, cons, Result, Part, part, Atom, link, obj, arrows, Literal, lit, Clause}
 use Rattle.logic.specs.Terms.{count, result_terms}
 use Rattle.logic.specs.Each.{declares}
@@ -44,32 +44,32 @@ unfoldable pub of_clause : {M : Type 0} → Taken M → Clause → M
 of_clause T [] = T.nothing
 of_clause T (l ∷ c) = T.join (of_literal T l) (of_clause T c)
 
--- The bounds that the reader takes: of these fields; of no part, of the variable next below w, of a symbol that is known or not, of a
+-- The bounds that the reader takes: of these fields; of no part, of the variable next below w, of symbol f, known or not, of a
 -- method with n arguments, of two parts from left to right; and so over a table of argument counts.
-abbrev pub bounds_of : ℕ → ℕ → Bool → Bounds
-bounds_of w n d = record { width = w; arguments = n; declared = d }
+abbrev pub bounds_of : ℕ → ℕ → ℕ → Bounds
+bounds_of w n u = record { width = w; arguments = n; unknown = u }
 
 abbrev pub no_bounds : Bounds
-no_bounds = bounds_of 0 0 true
+no_bounds = bounds_of 0 0 0
 
 abbrev pub below_bounds : ℕ → Bounds
-below_bounds w = bounds_of w 0 true
+below_bounds w = bounds_of w 0 0
 
-abbrev pub symbol_bounds : Bool → Bounds
-symbol_bounds known = bounds_of 0 0 known
+abbrev pub symbol_bounds : ℕ → Bool → Bounds
+symbol_bounds f known = bounds_of 0 0 (cond known 0 (f + 1))
 
 abbrev pub arity_bounds : ℕ → Bounds
-arity_bounds n = bounds_of 0 n true
+arity_bounds n = bounds_of 0 n 0
 
 unfoldable pub joined : Bounds → Bounds → Bounds
-joined a b = bounds_of (max a.width b.width) (max a.arguments b.arguments) (a.declared && b.declared)
+joined a b = bounds_of (max a.width b.width) (max a.arguments b.arguments) (max a.unknown b.unknown)
 
 abbrev pub bounds : List ℕ → Taken Bounds
 bounds table = record {
   nothing = no_bounds;
   join = joined;
   variable = λ n. below_bounds (suc n);
-  symbol = λ f n. symbol_bounds (declares table f n);
+  symbol = λ f n. symbol_bounds f (declares table f n);
   arity = arity_bounds;
 }
 

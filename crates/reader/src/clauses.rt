@@ -2,7 +2,7 @@
 ghost use Rattle.std.specs.Prelude.{◌≡◌, [], ◌∷◌};
 ghost use Rattle.text.specs.Read.{read_many, read_literal, read_clause, read_let};
 ghost use Rattle.text.specs.Answers.{parsed, mapped};
-ghost use Rattle.reader.specs.Summary.{terms_measure, clause_measure};
+ghost use Rattle.reader.specs.Summary.{of_literal, bounds, terms_measure, clause_measure};
 
 use crate::context::Context;
 use crate::measures::Measure;
@@ -13,18 +13,10 @@ impl<'t> Context<'t> {
     fn literals<'s>(self, s: &'s [u8]) -> Option<(Measure, &'s [u8])>
         ensures { parsed result ≡ mapped (clause_measure self.entry.table.now) (read_many [] ◌∷◌ (read_literal self.entry.depth) s.now) }
     {
-        let mut parts = Measure::empty();
-        let mut rest = s;
-        while let Some(next) = word(rest, b" ") {
-            let (part, after) = self.literal(next)?;
-            parts = parts.and(part);
-            rest = after;
-        }
-        let rest = word(rest, b")")?;
-        Some((parts, rest))
+        self.many(s, Context::literal)
     }
 
-    // A clause.
+    // A clause. It goes as `list` and `atom` do, a word and what stands behind it: two calls of other readers, with nothing to share.
     #[tactic(auto, unfolding(text::specs::Read::read_clause))]
     pub fn clause<'s>(self, s: &'s [u8]) -> Option<(Measure, &'s [u8])>
         ensures { parsed result ≡ mapped (clause_measure self.entry.table.now) (read_clause self.entry.depth s.now) }

@@ -3,7 +3,7 @@ ghost use Rattle.std.specs.Prelude.{◌≡◌, ◌+◌, MatchOption};
 ghost use Rattle.logic.specs.Each.{declares};
 
 // The table of the symbols' argument counts, and how many terms deep terms may nest.
-#[derive(Clone, Copy)]
+#[derive(Clone, Copy, Debug, PartialEq, Eq)]
 pub struct Context<'t> {
     pub table: &'t [u8],
     pub depth: usize,

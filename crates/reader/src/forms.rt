@@ -7,11 +7,12 @@ ghost use Rattle.reader.specs.LineAt.{read_spaced, read_head, place_of, closed, 
 use crate::context::Context;
 use crate::measures::Measure;
 use logic::Rule;
+use rule_numbers::Numbers;
 use scan::numbers::number;
 use scan::tables::one_of;
 use scan::words::word;
 
-// A clause or a list of a line: where it begins, and its measure.
+// A clause or a list of a line: where it begins, and its measure. A place and not the bytes from there, for the state holds places.
 #[derive(Clone, Copy, Debug, PartialEq, Eq)]
 pub struct ItemAt {
     pub start: usize,
@@ -19,21 +20,17 @@ pub struct ItemAt {
 }
 
 // A step: its rule, its numbers, its two lists and its claim.
-#[derive(Clone, Copy)]
+#[derive(Clone, Copy, Debug, PartialEq, Eq)]
 pub struct StepAt {
     pub rule: Rule,
-    pub a: usize,
-    pub i: usize,
-    pub b: usize,
-    pub j: usize,
-    pub k: usize,
+    pub numbers: Numbers,
     pub first: ItemAt,
     pub second: ItemAt,
     pub claim: ItemAt,
 }
 
 // What a line is that is a form: K of a sym line; the clause of an in line; a step.
-#[derive(Clone, Copy)]
+#[derive(Clone, Copy, Debug, PartialEq, Eq)]
 pub enum LineAt {
     Sym(usize),
     Input(ItemAt),
@@ -56,6 +53,7 @@ fn closes(s: &[u8]) -> bool
 }
 
 // K) after the word sym.
+#[tactic(auto, using(crate::proofs::Lines::sym_reads, crate::proofs::Lines::no_line), unfolding(text::specs::Read::read_sym))]
 fn sym_line(s: &[u8]) -> Option<LineAt>
     ensures { (table line : List ℕ) → result ≡ line_of table line (whole (read_sym s.now)) }
 {
@@ -72,20 +70,9 @@ fn spaced(s: &[u8]) -> Option<(usize, &[u8])>
     number(s)
 }
 
-// RULE A I B J K of a step.
-#[derive(Clone, Copy)]
-struct Head {
-    rule: Rule,
-    a: usize,
-    i: usize,
-    b: usize,
-    j: usize,
-    k: usize,
-}
-
 // RULE A I B J K after the word by.
 #[tactic(auto, unfolding(crate::specs::LineAt::read_head, text::specs::Read::read_rule))]
-fn step_head(s: &[u8]) -> Option<(Head, &[u8])>
+fn step_head(s: &[u8]) -> Option<((Rule, Numbers), &[u8])>
     ensures { parsed result ≡ read_head s.now }
 {
     let (rule, s) = one_of(s)?;
@@ -94,22 +81,12 @@ fn step_head(s: &[u8]) -> Option<(Head, &[u8])>
     let (b, s) = spaced(s)?;
     let (j, s) = spaced(s)?;
     let (k, s) = spaced(s)?;
-    Some((
-        Head {
-            rule,
-            a,
-            i,
-            b,
-            j,
-            k,
-        },
-        s,
-    ))
+    Some(((rule, Numbers { a, i, b, j, k }), s))
 }
 
 impl<'t> Context<'t> {
     // CLAUSE) after the word in.
-    #[tactic(auto, using(crate::proofs::Lines::no_line), unfolding(text::specs::Read::read_input))]
+    #[tactic(auto, using(crate::proofs::Lines::input_reads, crate::proofs::Lines::no_line), unfolding(text::specs::Read::read_input))]
     fn input_line(self, line: &[u8], s: &[u8]) -> Option<LineAt>
         ensures { result ≡ line_of self.entry.table.now line.now (whole (read_input self.entry.depth s.now)) }
     {
@@ -119,11 +96,11 @@ impl<'t> Context<'t> {
     }
 
     // RULE A I B J K LET LET CLAUSE) after the word by.
-    #[tactic(auto, using(crate::proofs::Steps::step_splits, crate::proofs::Lines::no_line), unfolding(crate::proofs::Steps::step_body))]
+    #[tactic(auto, using(crate::proofs::Steps::step_splits, crate::proofs::Steps::step_reads, crate::proofs::Lines::no_line), unfolding(crate::proofs::Steps::step_body))]
     fn step_line(self, line: &[u8], s: &[u8]) -> Option<LineAt>
         ensures { result ≡ line_of self.entry.table.now line.now (whole (read_step self.entry.depth s.now)) }
     {
-        let (head, s) = step_head(s)?;
+        let ((rule, numbers), s) = step_head(s)?;
         let first = word(s, b" ")?;
         let (firsts, s) = self.list(first)?;
         let second = word(s, b" ")?;
@@ -131,12 +108,8 @@ impl<'t> Context<'t> {
         let claim = word(s, b" ")?;
         let (claimed, s) = self.clause(claim)?;
         closes(s).then_some(LineAt::By(StepAt {
-            rule: head.rule,
-            a: head.a,
-            i: head.i,
-            b: head.b,
-            j: head.j,
-            k: head.k,
+            rule,
+            numbers,
             first: ItemAt {
                 start: place(line, first),
                 measure: firsts,

@@ -5,5 +5,6 @@ mod atoms;
 mod clauses;
 mod context;
 pub mod forms;
+mod items;
 pub mod measures;
 mod terms;

@@ -44,10 +44,10 @@ impl<'t> Context<'t> {
     {
         let (f, s) = number(s)?;
         if let Some(s) = word(s, b")") {
-            return Some((Bounds::symbol(self.declares(f, 0)), s));
+            return Some((Bounds::symbol(f, self.declares(f, 0)), s));
         }
         let (parts, s) = self.terms(s)?;
-        let symbol = Bounds::symbol(self.declares(f, parts.count));
+        let symbol = Bounds::symbol(f, self.declares(f, parts.count));
         Some((symbol.join(parts.bounds), s))
     }
 
@@ -57,14 +57,6 @@ impl<'t> Context<'t> {
         ensures value { parsed result ≡ mapped (terms_measure self.entry.table.now) (read_terms (read_term self.entry.depth) s.now) }
         ensures few { IfSome result (λ read. read.0.count + length read.1.now ≤ length s.now) }
     {
-        let mut parts = Measure::empty();
-        let mut rest = s;
-        while let Some(next) = word(rest, b" ") {
-            let (part, after) = self.term(next)?;
-            parts = parts.and(part);
-            rest = after;
-        }
-        let rest = word(rest, b")")?;
-        Some((parts, rest))
+        self.many(s, Context::term)
     }
 }

@@ -23,7 +23,7 @@ const USES: [[bool; 5]; 12] = [
     [true, true, false, false, false],
 ];
 
-// The rule's row, in the order of the rule table.
+// The rule's row, in the order of the rule table. Tables of rows are the form that is asked for.
 pub fn row(rule: Rule) -> usize
     ensures { result ≡ rule_row rule }
 {
@@ -41,7 +41,8 @@ pub struct Uses {
 }
 
 impl Uses {
-    // The rule's row of the table.
+    // The rule's row of the table: it is looked up, and no conversion.
+    #[tactic(auto, unfolding(logic::specs::Rules::uses), using(crate::proofs::Flags::uses_carried))]
     pub fn of(rule: Rule) -> Uses
         ensures { result ≡ uses_of rule }
     {

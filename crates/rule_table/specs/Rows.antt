@@ -14,23 +14,27 @@ use Rattle.agreement.specs.Agrees.{agrees, calls_agree, is_covered}
 use Rattle.rule_table.specs.declared.Target.{Target}
 use Rattle.rule_table.specs.declared.Target.TheVariants.{Occurrence, Subclass, Member, Object, Argument, Result}
 use Rattle.rule_table.specs.declared.Row.{Row}
-use Rattle.rule_table.specs.declared.Row.TheVariants.{Reflexivity, Resolution, Factoring, Rewriting, Acyclicity, Scalarity, Elimination}
+use Rattle.rule_table.specs.declared.Row.TheVariants.{Reflexivity, Resolution, Factoring, Acyclicity, Scalarity, Elimination}
+use Rattle.rule_table.specs.declared.Rewriting.{Rewriting}
 use Rattle.rule_table.specs.declared.Found.{Found}
 use Rattle.rule_table.specs.declared.Found.TheVariants as code
 
 -- R8 to R19: what a rule asks of its literals; of a rewriting rule the term of the literal at I that it replaces, the link at J, and
 -- whether the link's first term agrees and its second takes the term's place, or the other way round.
+abbrev pub rewriting_by : Target → Link → Bool → Row
+rewriting_by target kind forward = Row.Rewriting (record { target = target; link = kind; forward = forward })
+
 abbrev pub row_of : Rule → Row
 row_of Refl = Reflexivity
 row_of Res = Resolution
 row_of Fac = Factoring
-row_of Par = Rewriting Occurrence Eq true
+row_of Par = rewriting_by Occurrence Eq true
 row_of Acy = Acyclicity
-row_of Tra = Rewriting Subclass Sub true
-row_of Inc = Rewriting Member Sub true
-row_of Inh = Rewriting Object Sub false
-row_of Inp = Rewriting Argument Sub false
-row_of Out = Rewriting Result Sub true
+row_of Tra = rewriting_by Subclass Sub true
+row_of Inc = rewriting_by Member Sub true
+row_of Inh = rewriting_by Object Sub false
+row_of Inp = rewriting_by Argument Sub false
+row_of Out = rewriting_by Result Sub true
 row_of Sca = Scalarity
 row_of Eli = Elimination
 
@@ -85,12 +89,12 @@ factored x y =
     cond (not (eqb (length x) (length y)) && same_sign x y) (behind (atom x) (λ l. behind (atom y) (λ r. Some (covering l r)))) None
 
 -- R11, R13 to R17, par, tra, inc, inh, inp, out: the term, the side of the link that has to agree with it, and the other side.
-unfoldable pub replaced : Target → Link → Bool → ℕ → List ℕ → List ℕ → Option FoundAt
-replaced target kind forward k x y =
-    behind (term_at target k x) (λ t.
-    behind (link kind y) (λ u.
+unfoldable pub replaced : Rewriting → ℕ → List ℕ → List ℕ → Option FoundAt
+replaced r k x y =
+    behind (term_at r.target k x) (λ t.
+    behind (link r.link y) (λ u.
     behind (next u) (λ v.
-    Some (rewriting x t (cond forward u v) (cond forward v u)))))
+    Some (rewriting x t (cond r.forward u v) (cond r.forward v u)))))
 
 -- R12, acy, "+ sub(P,Q), + sub(Q',P')": P and Q, P' and Q'.
 unfoldable pub crossed : List ℕ → List ℕ → Option FoundAt
@@ -119,7 +123,7 @@ unfoldable pub found_by : Row → ℕ → Parsed (Unit {0}) → Parsed (Unit {0}
 found_by Reflexivity k i j = Some nothing
 found_by Resolution k i j = behind i (λ x. behind j (λ y. resolved x y))
 found_by Factoring k i j = behind i (λ x. behind j (λ y. factored x y))
-found_by (Rewriting target kind forward) k i j = behind i (λ x. behind j (λ y. replaced target kind forward k x y))
+found_by (Row.Rewriting r) k i j = behind i (λ x. behind j (λ y. replaced r k x y))
 found_by Acyclicity k i j = behind i (λ x. behind j (λ y. crossed x y))
 found_by Scalarity k i j = behind i (λ x. behind j (λ y. called x y))
 found_by Elimination k i j = behind i denying

@@ -29,18 +29,22 @@ pub enum Target {
     Result,
 }
 
-// A row of the rule table: what a rule asks of its literals. A rewriting rule has a link at J: forward, the target agrees with its first
-// term and the second takes its place; otherwise the other way round.
+// What a rewriting rule asks: the term of the literal at I, and a link at J. Forward, the term agrees with the link's first term and the
+// second takes its place; otherwise the other way round.
+#[derive(Clone, Copy, Debug, PartialEq, Eq)]
+pub struct Rewriting {
+    pub target: Target,
+    pub link: Link,
+    pub forward: bool,
+}
+
+// A row of the rule table: what a rule asks of its literals.
 #[derive(Clone, Copy, Debug, PartialEq, Eq)]
 pub enum Row {
     Reflexivity,
     Resolution,
     Factoring,
-    Rewriting {
-        target: Target,
-        link: Link,
-        forward: bool,
-    },
+    Rewriting(Rewriting),
     Acyclicity,
     Scalarity,
     Elimination,
@@ -50,42 +54,43 @@ const ROWS: [Row; 12] = [
     Row::Reflexivity,
     Row::Resolution,
     Row::Factoring,
-    Row::Rewriting {
+    Row::Rewriting(Rewriting {
         target: Target::Occurrence,
         link: Link::Eq,
         forward: true,
-    },
+    }),
     Row::Acyclicity,
-    Row::Rewriting {
+    Row::Rewriting(Rewriting {
         target: Target::Subclass,
         link: Link::Sub,
         forward: true,
-    },
-    Row::Rewriting {
+    }),
+    Row::Rewriting(Rewriting {
         target: Target::Member,
         link: Link::Sub,
         forward: true,
-    },
-    Row::Rewriting {
+    }),
+    Row::Rewriting(Rewriting {
         target: Target::Object,
         link: Link::Sub,
         forward: false,
-    },
-    Row::Rewriting {
+    }),
+    Row::Rewriting(Rewriting {
         target: Target::Argument,
         link: Link::Sub,
         forward: false,
-    },
-    Row::Rewriting {
+    }),
+    Row::Rewriting(Rewriting {
         target: Target::Result,
         link: Link::Sub,
         forward: true,
-    },
+    }),
     Row::Scalarity,
     Row::Elimination,
 ];
 
 // The rule's row.
+#[tactic(auto, using(rule_numbers::proofs::Flags::carried))]
 pub fn table_row(rule: Rule) -> Row
     ensures { result ≡ row_of rule }
 {
@@ -94,7 +99,7 @@ pub fn table_row(rule: Rule) -> Row
 
 // What a step names in its parents, each term or atom by the bytes from where it begins: what has to agree, and what the new literal is
 // made of.
-#[derive(Clone, Copy)]
+#[derive(Clone, Copy, Debug, PartialEq, Eq)]
 pub enum Found<'a> {
     // refl: no term has to agree.
     Nothing,
@@ -171,20 +176,13 @@ fn factoring<'a>(x: &'a [u8], y: &'a [u8]) -> Option<Found<'a>>
 
 // par, tra, inc, inh, inp and out: a term of the literal at I, and a link at J, whose other side takes the term's place.
 #[tactic(auto, unfolding(crate::specs::Rows::replaced, crate::specs::Rows::behind))]
-fn rewriting<'a>(
-    target: Target,
-    kind: Link,
-    forward: bool,
-    k: usize,
-    x: &'a [u8],
-    y: &'a [u8],
-) -> Option<Found<'a>>
-    ensures { found_of result ≡ replaced target kind forward k x.now y.now }
+fn replacement<'a>(asked: Rewriting, k: usize, x: &'a [u8], y: &'a [u8]) -> Option<Found<'a>>
+    ensures { found_of result ≡ replaced asked k x.now y.now }
 {
-    let term = term(target, k, x)?;
-    let first = link(y, kind)?;
+    let term = term(asked.target, k, x)?;
+    let first = link(y, asked.link)?;
     let second = next(first)?;
-    let (side, other) = if forward {
+    let (side, other) = if asked.forward {
         (first, second)
     } else {
         (second, first)
@@ -249,11 +247,7 @@ pub fn find<'a>(row: Row, k: usize, x: Option<&'a [u8]>, y: Option<&'a [u8]>) ->
         Row::Reflexivity => Some(Found::Nothing),
         Row::Resolution => resolution(x?, y?),
         Row::Factoring => factoring(x?, y?),
-        Row::Rewriting {
-            target,
-            link,
-            forward,
-        } => rewriting(target, link, forward, k, x?, y?),
+        Row::Rewriting(asked) => replacement(asked, k, x?, y?),
         Row::Acyclicity => acyclicity(x?, y?),
         Row::Scalarity => scalarity(x?, y?),
         Row::Elimination => elimination(x?),
@@ -262,12 +256,12 @@ pub fn find<'a>(row: Row, k: usize, x: Option<&'a [u8]>, y: Option<&'a [u8]>) ->
 
 // The third column: the agreement of what was found in the clauses a and b, filled, of terms that nest at most `depth` deep.
 #[tactic(auto, unfolding(crate::specs::Rows::agrees_by))]
-pub fn agrees<'a>(depth: u8, found: Found<'a>, a: Filled<'a>, b: Filled<'a>) -> bool
-    ensures value { result ≡ agrees_by depth (item_of a.entry) (item_of b.entry) (at_found found.entry) }
-    ensures a_unchanged { (item_of a.exit ≡ item_of a.entry) × (item_of b.exit ≡ item_of b.entry)
-        × (at_found found.exit ≡ at_found found.entry) }
+pub fn agrees<'a>(depth: u8, found: &Found<'a>, a: Filled<'a>, b: Filled<'a>) -> bool
+    ensures value { result ≡ agrees_by depth (item_of a.entry) (item_of b.entry) (at_found found.now) }
+    ensures found_unchanged { found.exit.now ≡ found.entry.now }
+    ensures a_unchanged { (item_of a.exit ≡ item_of a.entry) × (item_of b.exit ≡ item_of b.entry) }
 {
-    match found {
+    match *found {
         Found::Nothing | Found::Denied => true,
         Found::Covering { left, right } => covers(depth, a.beside(left), b.beside(right)),
         Found::Rewriting { term, side, .. } => agree(depth, a.beside(term), b.beside(side)),

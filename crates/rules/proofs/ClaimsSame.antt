@@ -48,9 +48,6 @@ pub landed_ahead : {rest : List ℕ} {pos : ℕ} {q : Parsed (Unit {0})} → Lan
 landed_ahead (lands s) = ahead s.bytes_there
 landed_ahead (lost e) = gone (omega arith)
 
-is_gone : {rest : List ℕ} {pos : ℕ} → Ahead rest pos bad → length rest ≤ pos
-is_gone (gone h) = h
-
 -- What filled bytes leave of the text in which they stand is its end.
 matches_tail : (f : Parsed (List ℕ)) (ts : List ℕ) → Gives (λ left _. End ts left) (matches f ts)
 unfolding matches

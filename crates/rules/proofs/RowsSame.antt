@@ -10,7 +10,6 @@ use borrow.Author.Tests.{ne_eqb, eq-eqb}
 use lib.Dec.{eqb}
 use lib.ListN.{length, length-drop}
 use Rattle.std.specs.Prelude.{Option, Some, None}
-use Rattle.logic.specs.declared.Link.{Link}
 use Rattle.logic.specs.declared.Link.TheVariants.{Mem, Sub}
 use Rattle.text.specs.Read.{Parsed, bad, got}
 use Rattle.text.specs.Access.{stood}
@@ -18,6 +17,7 @@ use Rattle.clauses.specs.Shapes.{positive, negative, first_or, atom, same_sign}
 use Rattle.clauses.proofs.Places.{atom_at, same_sign_at}
 use Rattle.clauses.proofs.Placing.{Stands}
 use Rattle.rule_table.specs.declared.Target as code
+use Rattle.rule_table.specs.declared.Rewriting as table
 use Rattle.rule_table.specs.declared.Target.TheVariants as target
 use Rattle.rule_table.specs.Rows.{FoundAt, nothing, covering, rewriting, crossing, calling, denied_term, behind, term_at, resolved, factored, replaced, crossed, called, denying}
 use Rattle.rules.proofs.Answered.{within_here, within_past}
@@ -58,6 +58,10 @@ old_target target.Member = old.Member
 old_target target.Object = old.Object
 old_target target.Argument = old.Argument
 old_target target.Result = old.Result
+
+-- The row of a rewriting rule.
+abbrev pub old_row : table.Rewriting → old.Row
+old_row r = record { kind = Rewriting; target = old_target r.target; link = r.link; forward = r.forward }
 
 term_walk : (p : List ℕ) (k : ℕ) (t : code.Target) → Walks p (old.target_place (old_target t) k p) (term_at t k)
 unfolding old.target_place term_at
@@ -122,14 +126,13 @@ module _ (p q : List ℕ) {i j : ℕ} {x y : List ℕ} (s : Stands p i x) (t : S
       find_behind _ ((value_walk q).from (lands w)) (λ e. unfound (one_past p q _ _ (inr e))) (λ d z.
       is_found (both_within p q v.within z.within) (same_call refl (same_arrow_lands p q s t) u v w z)))))
 
-  pub replaced_same : (target : code.Target) (kind : Link) (forward : Bool) (k : ℕ) →
-      Same p q (old.replaced (record { kind = Rewriting; target = old_target target; link = kind; forward = forward }) k p i q j) (replaced target kind forward k x y)
+  pub replaced_same : (r : table.Rewriting) (k : ℕ) → Same p q (old.replaced (old_row r) k p i q j) (replaced r k x y)
   unfolding old.replaced replaced
-  replaced_same target kind forward k =
-      find_behind _ ((term_walk p k target).from (lands s)) (λ e. unfound (one_past p q _ _ (inl e))) (λ a u.
-      find_behind _ ((link_walk q kind).from (lands t)) (λ e. unfound (one_past p q _ _ (inr (lost_walk (next_walk q) e)))) (λ b v.
+  replaced_same r k =
+      find_behind _ ((term_walk p k r.target).from (lands s)) (λ e. unfound (one_past p q _ _ (inl e))) (λ a u.
+      find_behind _ ((link_walk q r.link).from (lands t)) (λ e. unfound (one_past p q _ _ (inr (lost_walk (next_walk q) e)))) (λ b v.
       find_behind _ ((next_walk q).from (lands v)) (λ e. unfound (one_past p q _ _ (inr e))) (λ c w.
-      is_found (both_within p q u.within w.within) (same_rewrite refl s u (either_stands q forward v w) (either_stands q forward w v)))))
+      is_found (both_within p q u.within w.within) (same_rewrite refl s u (either_stands q r.forward v w) (either_stands q r.forward w v)))))
 
   pub denying_same : Same p q (old.denying p i) (denying x)
   unfolding denying

@@ -7,7 +7,7 @@ use Rattle.logic.specs.Rules.{uses}
 use Rattle.reader.specs.declared.forms.StepAt.{StepAt}
 use Rattle.clauses.proofs.Places.{place_at, list_at}
 use Rattle.rule_numbers.specs.Uses.{parent_numbers, unused_numbers}
-use Rattle.rules.specs.Judging.{ParentAt, numbers_of}
+use Rattle.rules.specs.Judging.{ParentAt}
 use Rattle.rules.proofs.RowPlaces.{row_at}
 use Rattle.rules.proofs.ClaimPlaces.{claim_at}
 
@@ -45,8 +45,8 @@ placed_step depth own a b line s =
     let first = filling_places (cond (uses s.rule).a a.width 1) (list_at line s.first.start) in
     let second = filling_places b.width (list_at line s.second.start) in
     let n = cond (uses s.rule).a a.literals 0 in
-    let two = conclude_at depth s.rule s.k a.clause n s.i line first b.clause b.literals s.j second s.claim.start in
-    let one = conclude_at depth s.rule s.k a.clause n s.i line first a.clause 0 s.j first s.claim.start in
+    let two = conclude_at depth s.rule s.numbers.k a.clause n s.numbers.i line first b.clause b.literals s.numbers.j second s.claim.start in
+    let one = conclude_at depth s.rule s.numbers.k a.clause n s.numbers.i line first a.clause 0 s.numbers.j first s.claim.start in
     let fit = lists_at (uses s.rule).a (uses s.rule).b s.first.measure.count s.second.measure.count a.width b.width in
-    let numbers = unused_numbers s.rule (numbers_of s) && fit in
-    settled_as (parent_numbers s.rule own (numbers_of s)) numbers (cond (uses s.rule).b two one)
+    let numbers = unused_numbers s.rule s.numbers && fit in
+    settled_as (parent_numbers s.rule own s.numbers) numbers (cond (uses s.rule).b two one)

@@ -7,8 +7,6 @@ use mathlib.Core.Path.{◌≡◌, refl, sym, ap, subst}
 use lib.Dec.{eqb}
 use lib.ListN.{length, drop}
 use Rattle.std.specs.Prelude.{Option, None, Ok, Err}
-use Rattle.logic.specs.declared.Link.{Link}
-use Rattle.logic.specs.declared.Link.TheVariants.{Eq, Sub}
 use Rattle.logic.specs.declared.Check.{Check}
 use Rattle.logic.specs.StepChecks.{Checked}
 use Rattle.logic.specs.declared.Rule.{Rule}
@@ -21,17 +19,16 @@ use Rattle.reader.specs.declared.forms.StepAt.{StepAt}
 use Rattle.clauses.specs.Entries.{entries}
 use Rattle.clauses.proofs.Places.{strip_at, list_at}
 use Rattle.clauses.proofs.Placing.{Stands}
-use Rattle.rule_table.specs.declared.Target as code
-use Rattle.rule_table.specs.declared.Target.TheVariants as target
+use Rattle.rule_table.specs.declared.Rewriting as table
 use Rattle.rule_numbers.specs.Uses.{parent_numbers, unused_numbers}
 use Rattle.rule_table.specs.Rows.{FoundAt, row_of, behind, found_by, agrees_by, resolved, factored, replaced, crossed, called, denying}
 use Rattle.rules.specs.Claim.{KeptAt, new_by, literals_by, claims}
-use Rattle.rules.specs.Judging.{ParentAt, given, dropped_by, checked, conclude_by, premise, under_lists, lists_fit, settled, numbers_of, step_at}
+use Rattle.rules.specs.Judging.{ParentAt, given, dropped_by, checked, conclude_by, premise, under_lists, lists_fit, settled, step_at}
 use Rattle.rules.proofs.Landing.{Lands, lands, lost, land, within_lands, literal_lands, positive_walk}
 use Rattle.rules.proofs.ListsSame.{Lists, lists_given}
 use Rattle.rules.proofs.ClaimsSame.{item, holds, Reads, then_read, landed_ahead, no_read, reflexive_read, equated_read, rewritten_read, others_read, ends_same}
 use Rattle.rules.proofs.AgreesSame.{agree_same, calls_same, covers_same}
-use Rattle.rules.proofs.RowsSame.{Alike, same_none, same_cover, same_rewrite, same_cross, same_call, same_denied, Same, unfound, is_found, old_target, resolved_same, crossed_same, called_same, replaced_same, denying_same, factored_same}
+use Rattle.rules.proofs.RowsSame.{Alike, same_none, same_cover, same_rewrite, same_cross, same_call, same_denied, Same, unfound, is_found, old_target, old_row, resolved_same, crossed_same, called_same, replaced_same, denying_same, factored_same}
 use Rattle.rules.proofs.RowPlaces as old
 use Rattle.rules.proofs.RowPlaces.{Found, Rewriting, answer, row_at, found_at}
 use Rattle.rules.proofs.ClaimPlaces as claim
@@ -131,12 +128,12 @@ module _ (depth : ℕ) (p line starts q others rest : List ℕ) {es fs : Option 
   by_one rule {x} y (lost e) past found h = by_none rule x y _ (past e)
   by_one rule {x} y (lands {rest = xs} s) past found h = by_found rule y (lands s) (h xs s)
 
-  by_replaced : (rule : Rule) (t : code.Target) (kind : Link) (forward : Bool) → old.row_of rule ≡ record { kind = Rewriting; target = old_target t; link = kind; forward = forward } →
-      {x y : ℕ} {X Y : Parsed (Unit {0})} → Lands p x X → Lands q y Y → Concludes rule x y (behind X (λ xs. behind Y (λ ys. replaced t kind forward k xs ys))) X
+  by_replaced : (rule : Rule) (r : table.Rewriting) → old.row_of rule ≡ old_row r →
+      {x y : ℕ} {X Y : Parsed (Unit {0})} → Lands p x X → Lands q y Y → Concludes rule x y (behind X (λ xs. behind Y (λ ys. replaced r k xs ys))) X
   unfolding old.found_by
-  by_replaced rule t kind forward r {x} {y} a b =
-      by_two rule a b (rewrites_past depth k p x line starts q y others rule (old_target t) kind forward r) (replaced t kind forward k)
-      (λ xs ys s t'. subst (λ (row : old.Row). Same p q (old.found_by row.kind row k p x q y) (replaced t kind forward k xs ys)) (sym r) (replaced_same p q s t' t kind forward k))
+  by_replaced rule r e {x} {y} a b =
+      by_two rule a b (rewrites_past depth k p x line starts q y others rule (old_target r.target) r.link r.forward e) (replaced r k)
+      (λ xs ys s t. subst (λ (row : old.Row). Same p q (old.found_by row.kind row k p x q y) (replaced r k xs ys)) (sym e) (replaced_same p q s t r k))
 
   conclude_same : (rule : Rule) → ((uses rule).b ≡ true) → {x y : ℕ} {X Y : Parsed (Unit {0})} → Lands p x X → Lands q y Y → Concludes rule x y (found_by (row_of rule) k X Y) X
   unfolding found_by old.found_by uses
@@ -146,12 +143,12 @@ module _ (depth : ℕ) (p line starts q others rest : List ℕ) {es fs : Option 
   conclude_same Res u {x} {y} a b = by_two Res a b (res_past depth k p x line starts q y others) resolved (λ xs ys s t. resolved_same p q s t)
   conclude_same Acy u {x} {y} a b = by_two Acy a b (acy_past depth k p x line starts q y others) crossed (λ xs ys s t. crossed_same p q s t)
   conclude_same Sca u {x} {y} a b = by_two Sca a b (sca_past depth k p x line starts q y others) called (λ xs ys s t. called_same p q s t)
-  conclude_same Par u a b = by_replaced Par target.Occurrence Eq true refl a b
-  conclude_same Tra u a b = by_replaced Tra target.Subclass Sub true refl a b
-  conclude_same Inc u a b = by_replaced Inc target.Member Sub true refl a b
-  conclude_same Inh u a b = by_replaced Inh target.Object Sub false refl a b
-  conclude_same Inp u a b = by_replaced Inp target.Argument Sub false refl a b
-  conclude_same Out u a b = by_replaced Out target.Result Sub true refl a b
+  conclude_same Par u a b = by_replaced Par _ refl a b
+  conclude_same Tra u a b = by_replaced Tra _ refl a b
+  conclude_same Inc u a b = by_replaced Inc _ refl a b
+  conclude_same Inh u a b = by_replaced Inh _ refl a b
+  conclude_same Inp u a b = by_replaced Inp _ refl a b
+  conclude_same Out u a b = by_replaced Out _ refl a b
 
 -- The rules without B: A stands for it.
 module _ (depth : ℕ) (p line starts rest : List ℕ) {es : Option (List (List ℕ))} (l : Lists line starts es) (k n i w j : ℕ) where
@@ -177,7 +174,7 @@ module _ (depth : ℕ) (p line starts rest : List ℕ) {es : Option (List (List 
 pub step_same : (depth own : ℕ) (a b : ParentAt) (line : List ℕ) (s : StepAt) → placed_step depth own a b line s ≡ step_at depth own a b line s
 unfolding placed_step step_at settled_as settled lists_at lists_fit under_lists conclude_at conclude_by
 step_same depth own a b line s =
-    ap (λ z. settled (parent_numbers s.rule own (numbers_of s)) (unused_numbers s.rule (numbers_of s) && lists_fit s a.width b.width) z) (go (uses s.rule).b refl)
+    ap (λ z. settled (parent_numbers s.rule own s.numbers) (unused_numbers s.rule s.numbers && lists_fit s a.width b.width) z) (go (uses s.rule).b refl)
   where
     rest : List ℕ
     rest = drop s.claim.start line
@@ -189,16 +186,16 @@ step_same depth own a b line s =
     firsts = lists_given line s.first.start (cond (uses s.rule).a a.width 1)
 
     two : (uses s.rule).b ≡ true →
-        conclude_at depth s.rule s.k a.clause n s.i line (filling_places (cond (uses s.rule).a a.width 1) (list_at line s.first.start)) b.clause b.literals s.j (filling_places b.width (list_at line s.second.start)) s.claim.start ≡
+        conclude_at depth s.rule s.numbers.k a.clause n s.numbers.i line (filling_places (cond (uses s.rule).a a.width 1) (list_at line s.first.start)) b.clause b.literals s.numbers.j (filling_places b.width (list_at line s.second.start)) s.claim.start ≡
         conclude_by depth s (premise a.clause (given (cond (uses s.rule).a a.width 1) (entries (drop s.first.start line))) n) (premise b.clause (given b.width (entries (drop s.second.start line))) b.literals) rest
     two u =
-        conclude_same depth a.clause line _ b.clause _ rest firsts (lists_given line s.second.start b.width) s.k n s.i b.literals s.j s.rule u
-        (literal_lands a.clause s.i) (literal_lands b.clause s.j)
+        conclude_same depth a.clause line _ b.clause _ rest firsts (lists_given line s.second.start b.width) s.numbers.k n s.numbers.i b.literals s.numbers.j s.rule u
+        (literal_lands a.clause s.numbers.i) (literal_lands b.clause s.numbers.j)
 
     one : (uses s.rule).b ≡ false →
-        conclude_at depth s.rule s.k a.clause n s.i line (filling_places (cond (uses s.rule).a a.width 1) (list_at line s.first.start)) a.clause 0 s.j (filling_places (cond (uses s.rule).a a.width 1) (list_at line s.first.start)) s.claim.start ≡
+        conclude_at depth s.rule s.numbers.k a.clause n s.numbers.i line (filling_places (cond (uses s.rule).a a.width 1) (list_at line s.first.start)) a.clause 0 s.numbers.j (filling_places (cond (uses s.rule).a a.width 1) (list_at line s.first.start)) s.claim.start ≡
         conclude_by depth s (premise a.clause (given (cond (uses s.rule).a a.width 1) (entries (drop s.first.start line))) n) (premise a.clause (given (cond (uses s.rule).a a.width 1) (entries (drop s.first.start line))) 0) rest
-    one u = alone_same depth a.clause line _ rest firsts s.k n s.i 0 s.j s.rule u (literal_lands a.clause s.i) (literal_lands a.clause s.j)
+    one u = alone_same depth a.clause line _ rest firsts s.numbers.k n s.numbers.i 0 s.numbers.j s.rule u (literal_lands a.clause s.numbers.i) (literal_lands a.clause s.numbers.j)
 
     pick : (b : Bool) {x y z w : Checked} → (b ≡ true → x ≡ z) → (b ≡ false → y ≡ w) → cond b x y ≡ cond b z w
     pick true f g = f refl
@@ -206,7 +203,7 @@ step_same depth own a b line s =
 
     go : (b' : Bool) → (uses s.rule).b ≡ b' →
         cond (uses s.rule).b
-        (conclude_at depth s.rule s.k a.clause n s.i line (filling_places (cond (uses s.rule).a a.width 1) (list_at line s.first.start)) b.clause b.literals s.j (filling_places b.width (list_at line s.second.start)) s.claim.start)
-        (conclude_at depth s.rule s.k a.clause n s.i line (filling_places (cond (uses s.rule).a a.width 1) (list_at line s.first.start)) a.clause 0 s.j (filling_places (cond (uses s.rule).a a.width 1) (list_at line s.first.start)) s.claim.start) ≡
+        (conclude_at depth s.rule s.numbers.k a.clause n s.numbers.i line (filling_places (cond (uses s.rule).a a.width 1) (list_at line s.first.start)) b.clause b.literals s.numbers.j (filling_places b.width (list_at line s.second.start)) s.claim.start)
+        (conclude_at depth s.rule s.numbers.k a.clause n s.numbers.i line (filling_places (cond (uses s.rule).a a.width 1) (list_at line s.first.start)) a.clause 0 s.numbers.j (filling_places (cond (uses s.rule).a a.width 1) (list_at line s.first.start)) s.claim.start) ≡
         under_lists depth a b line s
     go b' e = pick (uses s.rule).b two one

@@ -5,9 +5,9 @@ use Rattle.text.specs.Read.{Parsed, bad, got, Reader, ◌>>◌}
 use Rattle.clauses.specs.Shapes.{literals}
 use Rattle.filling.specs.Items.{Item, item_of, beside}
 use Rattle.expected.specs.Claims.{reflexive, equated, rewritten, others, claim_ends}
+use Rattle.expected.specs.declared.claims.Kept.{Kept}
 use Rattle.rule_table.specs.Rows.{FoundAt, nothing, covering, rewriting, crossing, calling, denied_term}
 use Rattle.rules.specs.declared.claims.Premise.{Premise}
-use Rattle.rules.specs.declared.claims.Kept.{Kept}
 
 -- R8 to R19, "new literal, filled": the new literal, if there is one, after a space, of what was found in the clauses x and y.
 unfoldable pub new_by : ℕ → Item → Item → FoundAt → Reader (Unit {0})

@@ -17,7 +17,6 @@ use Rattle.clauses.specs.Entries.{entries}
 use Rattle.clauses.specs.Shapes.{literal, positive}
 use Rattle.filling.specs.Items.{Item}
 use Rattle.rules.specs.declared.steps.Parent as code
-use Rattle.rule_numbers.specs.declared.Numbers.{Numbers}
 use Rattle.rule_numbers.specs.Uses.{uses_of, parent_numbers, unused_numbers}
 use Rattle.rule_table.specs.Rows.{FoundAt, row_of, found_by, agrees_by}
 use Rattle.rules.specs.Claim.{PremiseAt, KeptAt, without, claims}
@@ -49,10 +48,10 @@ checked depth a b claim (Some f) =
 -- R5: "At I" is a position in A, "at J" one in B. T9: the claim "begins wherever the second list ends": it is the rest of the line.
 unfoldable pub conclude_by : ℕ → StepAt → PremiseAt → PremiseAt → List ℕ → Checked
 conclude_by depth s a b claim =
-    let x = literal s.i a.clause.bytes in
-    let y = literal s.j b.clause.bytes in
-    let kept = without a (dropped_by (uses_of s.rule).b x s.i s.j) in
-    checked depth kept (without b s.j) claim (found_by (row_of s.rule) s.k x y)
+    let x = literal s.numbers.i a.clause.bytes in
+    let y = literal s.numbers.j b.clause.bytes in
+    let kept = without a (dropped_by (uses_of s.rule).b x s.numbers.i s.numbers.j) in
+    checked depth kept (without b s.numbers.j) claim (found_by (row_of s.rule) s.numbers.k x y)
 
 -- A parent as it stands in the text: what begins with its clause, its number of literals and its width.
 pub record ParentAt : Type 0 where
@@ -83,15 +82,11 @@ under_lists depth a b line s =
 unfoldable pub settled : Bool → Bool → Checked → Checked
 settled parents numbers answer = cond parents (cond numbers answer (Err Check.Numbers)) (Err Check.Parents)
 
-abbrev pub numbers_of : StepAt → Numbers
-numbers_of s = record { a = s.a; i = s.i; b = s.b; j = s.j; k = s.k }
-
 -- A step, as it was read, over its parents as they stand; `own` is its own number.
 unfoldable pub step_at : ℕ → ℕ → ParentAt → ParentAt → List ℕ → StepAt → Checked
 step_at depth own a b line s =
-    let numbers = numbers_of s in
-    let right = unused_numbers s.rule numbers && lists_fit s a.width b.width in
-    settled (parent_numbers s.rule own numbers) right (under_lists depth a b line s)
+    let right = unused_numbers s.rule s.numbers && lists_fit s a.width b.width in
+    settled (parent_numbers s.rule own s.numbers) right (under_lists depth a b line s)
 
 -- A parent's clause, formed, its terms at most so deep; its number of literals and its width are these.
 pub record HoldsClause (depth : ℕ) (p : ParentAt) (c : Clause) : Type 0 where

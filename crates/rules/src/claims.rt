@@ -5,12 +5,12 @@ ghost use Rattle.filling.specs.Items.{item_of};
 ghost use Rattle.rule_table.specs.Rows.{at_found};
 ghost use Rattle.rules.specs.Claim.{premise_of, without, kept_of, new_by, literals_by, claims};
 
-use expected::claims::{begin, ends, equated, others, reflexive, rewritten};
-use filling::compare::Filled;
+use expected::claims::{Kept, begin, ends, equated, others, reflexive, rewritten};
+use filling::compare::{Filled, Replaced};
 use rule_table::Found;
 
 // A parent with what fills it, and its number of literals.
-#[derive(Clone, Copy)]
+#[derive(Clone, Copy, Debug, PartialEq, Eq)]
 pub struct Premise<'a> {
     pub clause: Filled<'a>,
     pub literals: usize,
@@ -29,62 +29,61 @@ impl<'a> Premise<'a> {
     }
 }
 
-// What the claim keeps of a parent: of so many literals of its clause all but one.
-#[derive(Clone, Copy)]
-pub struct Kept<'a> {
-    pub clause: Filled<'a>,
-    pub literals: usize,
-    pub dropped: usize,
+// What the claim of a step has to be: the new literal of what was found in the clauses, and what is kept of either.
+#[derive(Clone, Copy, Debug, PartialEq, Eq)]
+pub struct Conclusion<'a> {
+    pub found: Found<'a>,
+    pub a: Kept<'a>,
+    pub b: Kept<'a>,
 }
 
-// The new literal, if any, of what was found in the clauses a and b: what is left of the claim after it.
-#[tactic(auto, unfolding(crate::specs::Claim::new_by))]
-fn new_literal<'r>(
-    depth: u8,
-    found: Found<'_>,
-    a: Filled<'_>,
-    b: Filled<'_>,
-    rest: &'r [u8],
-) -> Option<&'r [u8]>
-    ensures { passed result ≡ new_by depth (item_of a.entry) (item_of b.entry) (at_found found.entry) rest.now }
-{
-    match found {
-        Found::Nothing => reflexive(depth, a.entries, rest),
-        Found::Covering { .. } | Found::Denied => Some(rest),
-        Found::Rewriting {
-            literal,
-            term,
-            other,
-            ..
-        } => rewritten(depth, a.beside(literal), term, b.beside(other), rest),
-        Found::Crossing { left, more, .. } => equated(depth, a.beside(left), a.beside(more), rest),
-        Found::Calling { value, other, .. } => {
-            equated(depth, a.beside(value), b.beside(other), rest)
+impl<'a> Conclusion<'a> {
+    // The new literal, if any: what is left of the claim after it.
+    #[tactic(auto, unfolding(crate::specs::Claim::new_by))]
+    fn new_literal<'r>(&self, depth: u8, rest: &'r [u8]) -> Option<&'r [u8]>
+        ensures { passed result ≡ new_by depth (item_of self.now.a.clause) (item_of self.now.b.clause) (at_found self.now.found) rest.now }
+    {
+        let (a, b) = (self.a.clause, self.b.clause);
+        match self.found {
+            Found::Nothing => reflexive(depth, a.entries, rest),
+            Found::Covering { .. } | Found::Denied => Some(rest),
+            Found::Rewriting {
+                literal,
+                term,
+                other,
+                ..
+            } => {
+                let replaced = Replaced {
+                    hole: term.len(),
+                    new: b.beside(other),
+                };
+                rewritten(depth, a.beside(literal), replaced, rest)
+            }
+            Found::Crossing { left, more, .. } => {
+                equated(depth, a.beside(left), a.beside(more), rest)
+            }
+            Found::Calling { value, other, .. } => {
+                equated(depth, a.beside(value), b.beside(other), rest)
+            }
         }
     }
-}
 
-// The literals of the claim: what is left of the line after them.
-#[tactic(auto, unfolding(crate::specs::Claim::literals_by))]
-fn literals<'r>(
-    depth: u8,
-    found: Found<'_>,
-    a: Kept<'_>,
-    b: Kept<'_>,
-    claim: &'r [u8],
-) -> Option<&'r [u8]>
-    ensures { passed result ≡ literals_by depth (kept_of a.entry) (kept_of b.entry) (at_found found.entry) claim.now }
-{
-    let first = begin(claim)?;
-    let kept = new_literal(depth, found, a.clause, b.clause, first)?;
-    let last = others(depth, a.clause, a.literals, a.dropped, kept)?;
-    others(depth, b.clause, b.literals, b.dropped, last)
-}
+    // The literals of the claim: what is left of the line after them.
+    #[tactic(auto, unfolding(crate::specs::Claim::literals_by))]
+    fn literals<'r>(&self, depth: u8, claim: &'r [u8]) -> Option<&'r [u8]>
+        ensures { passed result ≡ literals_by depth (kept_of self.now.a) (kept_of self.now.b) (at_found self.now.found) claim.now }
+    {
+        let first = begin(claim)?;
+        let kept = self.new_literal(depth, first)?;
+        let last = others(depth, self.a, kept)?;
+        others(depth, self.b, last)
+    }
 
-// The claim is the new literal, A's other literals, then B's other literals, up to the end of the line.
-#[tactic(auto, unfolding(crate::specs::Claim::claims))]
-pub fn claimed(depth: u8, found: Found<'_>, a: Kept<'_>, b: Kept<'_>, claim: &[u8]) -> bool
-    ensures { result ≡ claims depth (kept_of a.entry) (kept_of b.entry) (at_found found.entry) claim.now }
-{
-    literals(depth, found, a, b, claim).is_some_and(ends)
+    // The claim is the new literal, A's other literals, then B's other literals, up to the end of the line.
+    #[tactic(auto, unfolding(crate::specs::Claim::claims))]
+    pub fn is_claimed(&self, depth: u8, claim: &[u8]) -> bool
+        ensures { result ≡ claims depth (kept_of self.now.a) (kept_of self.now.b) (at_found self.now.found) claim.now }
+    {
+        self.literals(depth, claim).is_some_and(ends)
+    }
 }

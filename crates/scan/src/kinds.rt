@@ -17,6 +17,7 @@ pub enum Kind {
 }
 
 impl Kind {
+    // The kind of a byte: a question and no conversion, for many bytes are of one kind.
     #[tactic(auto, unfolding(text::specs::Kinds::kind_of))]
     pub fn of(b: u8) -> Self
         ensures { kind_number result ≡ kind_of b }

@@ -2,8 +2,9 @@
 #![tactic(auto)]
 
 ghost use Rattle.std.specs.Prelude.{◌≤◌, ◌≡◌, length, drop};
-ghost use Rattle.text.specs.Size.{line_count, line_end_count, first_line, part_at};
+ghost use Rattle.text.specs.Size.{line_count, line_end_count, first_line};
 ghost use Rattle.text.specs.Split.{too_large};
+ghost use Rattle.source.specs.Texts.{part_of};
 
 use memchr::memchr;
 use text::Figures;
@@ -13,7 +14,8 @@ const LINE_END: u8 = b'\n';
 // Bytes whose line ends are counted together: their number fits in a byte.
 const BLOCK: usize = 128;
 
-// The bytes of the first line; none, which are no form, where the text ends before the line does.
+// The bytes of the first line; none, which are no form, where the text ends before the line does: what is no line is refused as an empty
+// one is, so an Option would be turned into it.
 #[tactic(auto, using(crate::proofs::Ends::first_ended, crate::proofs::Ends::first_unended))]
 pub fn first_line(text: &[u8]) -> &[u8]
     ensures value { result.now ≡ first_line text.now }
@@ -82,15 +84,24 @@ pub fn clause_part(text: &[u8], start: usize) -> &[u8]
     text.get(start..).unwrap_or(&[])
 }
 
-// Of two texts in a row, what stands from `at` on in the one that holds it.
-#[tactic(auto, unfolding(text::specs::Size::part_at))]
-pub fn part_at<'a>(base: &'a [u8], job: &'a [u8], at: usize) -> &'a [u8]
-    ensures value { result.now ≡ part_at base.now job.now at }
-    ensures base_unchanged { (base.exit.now ≡ base.entry.now) × (job.exit.now ≡ job.entry.now) }
-{
-    if at < base.len() {
-        clause_part(base, at)
-    } else {
-        clause_part(job, at - base.len())
+// A base and a job, which are read in a row.
+#[derive(Clone, Copy, Debug, PartialEq, Eq)]
+pub struct Texts<'a> {
+    pub base: &'a [u8],
+    pub job: &'a [u8],
+}
+
+impl<'a> Texts<'a> {
+    // What stands from `at` on in the text that holds it.
+    #[tactic(auto, unfolding(text::specs::Size::part_at))]
+    pub fn part_at(self, at: usize) -> &'a [u8]
+        ensures value { result.now ≡ part_of self.entry at }
+        ensures self_unchanged { (self.exit.base.now ≡ self.entry.base.now) × (self.exit.job.now ≡ self.entry.job.now) }
+    {
+        if at < self.base.len() {
+            clause_part(self.base, at)
+        } else {
+            clause_part(self.job, at - self.base.len())
+        }
     }
 }

@@ -32,7 +32,7 @@ use Rattle.state.specs.Represents.{Stands, Represents, Sized, Begins, SeenAs, Se
 use Rattle.text.proofs.Plain.{clause_plain, in_front}
 use Rattle.text.proofs.Sound.{line_sound}
 use Rattle.reader.proofs.LineParts.{input_place, claim_place}
-use Rattle.reader.proofs.Bounds.{tell_terms, tell_clause, width_told, declared_told}
+use Rattle.reader.proofs.Bounds.{tell_terms, tell_clause, width_told, none_unknown, declared_told}
 use Rattle.state.proofs.Limits.{and_comm, input_limits, step_limits, clause_small}
 use Rattle.text.proofs.Tests.{T_and}
 use Rattle.reader.specs.declared.forms.LineAt.{LineAt}
@@ -82,6 +82,8 @@ module _ {depth : ℕ} {part : ℕ → List ℕ} {held : code.HeldState} {st : S
       rw (
         R.table,
         step_limits st.symbols bytes s,
+        none_unknown,
+        none_unknown,
         tell_terms (declared_told st.symbols) s.first,
         tell_terms (declared_told st.symbols) s.second,
         tell_clause (declared_told st.symbols) s.claim,

@@ -14,7 +14,7 @@ pub passed_both : (b : Bool) (next : Checked) (c : Check) → cond b next (Err c
 passed_both true next c e = (tt, e)
 passed_both false next c e = absurd (cc)
 
-pub any_constant : (table : List ℕ) → list_any (λ k. eqb k 0) table ≡ has_constant table
+pub any_constant : (table : List ℕ) → has_constant table ≡ list_any (λ k. eqb k 0) table
 unfolding has_constant
 any_constant [] = refl
 any_constant (k ∷ table) = ap (λ b. eqb k 0 || b) (any_constant table)

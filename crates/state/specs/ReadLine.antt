@@ -38,7 +38,7 @@ line_fits most b = leb (max most b.width) max_literals && leb b.arguments max_ar
 unfoldable pub clause_failure : Bool → ℕ → Bounds → Checked
 clause_failure ready most b =
     cond ready
-    (cond (line_fits most b) (cond b.declared (Ok tt) (Err Check.Symbol)) (Err Check.Limit)) (Err Check.Constant)
+    (cond (line_fits most b) (cond (eqb b.unknown 0) (Ok tt) (Err Check.Symbol)) (Err Check.Limit)) (Err Check.Constant)
 
 -- Of a step: the most entries or literals, and the bounds of its lists and its claim.
 unfoldable pub step_most : StepAt → ℕ

@@ -25,8 +25,8 @@ const ARGUMENTS: usize = 8;
 const ITEMS: usize = 32;
 
 // Of each symbol its argument count, of each clause its place, and how many there are; of the clauses, how many are inputs. There is room
-// for a clause of each line of the office's texts.
-#[derive(Drop)]
+// for a clause of each line of the office's texts. Arrays with their lengths beside are the form that is asked for, with no heap.
+#[derive(Debug, PartialEq, Eq, Drop)]
 pub struct HeldState {
     pub counts: [u8; SYMBOLS],
     pub symbols: usize,
@@ -74,6 +74,7 @@ impl HeldState {
     }
 
     // Whether some symbol takes no terms.
+    #[tactic(auto, using(crate::proofs::StateCode::any_constant))]
     pub fn has_constant(&self) -> bool
         ensures value { result ≡ has_constant (held_table self.now) }
         ensures self_unchanged { self.exit.now ≡ self.entry.now }
@@ -83,14 +84,14 @@ impl HeldState {
 
     // Checks 3 to 6 of a line.
     #[tactic(auto, unfolding(crate::specs::ReadLine::failure_of))]
-    fn passes(&self, l: LineAt) -> Result<(), Check>
-        ensures value { result ≡ failure_of self.now l }
+    fn passes(&self, l: &LineAt) -> Result<(), Check>
+        ensures value { result ≡ failure_of self.now l.now }
         ensures self_unchanged { self.exit.now ≡ self.entry.now }
     {
         match l {
             LineAt::Sym(k) => {
                 Check::Order.passed_if(self.clauses == 0)?;
-                Check::Limit.passed_if(self.symbols < SYMBOLS && k <= PARTS)
+                Check::Limit.passed_if(self.symbols < SYMBOLS && *k <= PARTS)
             }
             LineAt::Input(c) => {
                 Check::Order.passed_if(self.clauses == self.inputs)?;
@@ -107,8 +108,10 @@ impl HeldState {
         ensures sees { Sees depth self.now text.now result }
         ensures self_unchanged { (self.exit.now ≡ self.entry.now) × (text.exit.now ≡ text.entry.now) }
     {
-        let l = line(text, self.declared(), depth).ok_or(Check::Form)?;
-        self.passes(l)?;
+        let Some(l) = line(text, self.declared(), depth) else {
+            return Err(Check::Form);
+        };
+        self.passes(&l)?;
         Ok(l)
     }
 
@@ -165,13 +168,13 @@ fn clause_passes(ready: bool, most: usize, b: Bounds) -> Result<(), Check>
 {
     Check::Constant.passed_if(ready)?;
     Check::Limit.passed_if(most.max(b.width) <= ITEMS && b.arguments <= ARGUMENTS)?;
-    Check::Symbol.passed_if(b.declared)
+    Check::Symbol.passed_if(b.unknown == 0)
 }
 
 // Checks 4 to 6 of a step: its lists and its claim, in the order of the text.
 #[tactic(auto, unfolding(crate::specs::ReadLine::step_failure, crate::specs::ReadLine::step_most, crate::specs::ReadLine::step_bounds))]
-fn step_passes(ready: bool, s: StepAt) -> Result<(), Check>
-    ensures { result ≡ step_failure ready s }
+fn step_passes(ready: bool, s: &StepAt) -> Result<(), Check>
+    ensures { result ≡ step_failure ready s.now }
 {
     let (f, g, c) = (s.first.measure, s.second.measure, s.claim.measure);
     let most = f.count.max(g.count.max(c.count));
@@ -207,8 +210,8 @@ fn counted(inputs: usize) -> usize
 
 // What a clause adds, of a line that begins at `start` of the text, with so many in lines.
 #[tactic(auto, unfolding(crate::specs::ReadLine::clause_added))]
-fn clause_added(start: usize, inputs: usize, c: ItemAt) -> Added
-    ensures { result ≡ clause_added start inputs c }
+fn clause_added(start: usize, inputs: usize, c: &ItemAt) -> Added
+    ensures { result ≡ clause_added start inputs c.now }
 {
     Added::Clause {
         start: place(start, c.start),
@@ -220,13 +223,14 @@ fn clause_added(start: usize, inputs: usize, c: ItemAt) -> Added
 
 // What a line that passes adds, which begins at `start` of the text and comes after so many in lines.
 #[tactic(auto, unfolding(crate::specs::ReadLine::added_by), using(crate::proofs::Held::what_adds))]
-pub fn adds(start: usize, inputs: usize, l: LineAt) -> Added
-    ensures value { result ≡ added_by start inputs l }
-    ensures adds { Adds start inputs l result }
+pub fn adds(start: usize, inputs: usize, l: &LineAt) -> Added
+    ensures value { result ≡ added_by start inputs l.now }
+    ensures adds { Adds start inputs l.now result }
+    ensures l_unchanged { l.exit.now ≡ l.entry.now }
 {
     match l {
-        LineAt::Sym(k) => Added::Symbol(byte(k)),
+        LineAt::Sym(k) => Added::Symbol(byte(*k)),
         LineAt::Input(c) => clause_added(start, counted(inputs), c),
-        LineAt::By(s) => clause_added(start, inputs, s.claim),
+        LineAt::By(s) => clause_added(start, inputs, &s.claim),
     }
 }

@@ -143,3 +143,6 @@ module _ (depth : ℕ) (part : ℕ → List ℕ) (state : code.HeldState) (held 
       go (Sym k) n = refl
       go (Input c) n = refl
       go (By s) n = absurd (n s refl)
+
+-- What `checked` asks: a check of the line fails, one of the step fails, all of a step pass, or the line is no step.
+pub ruleset checking = (first_failed, step_failed, step_passed, first_of_line, not_judged)

@@ -26,7 +26,7 @@ SizesOf st held = Sized st (literals_of held) (widths_of held)
 -- What the answer to a step means, over the parents that it names (Judges).
 abbrev pub JudgedRight : ℕ → (ℕ → List ℕ) → code.HeldState → List Held → List ℕ → StepAt → Checked → Type 0
 JudgedRight depth part state held line s r =
-    Judges depth state.clauses (parent_at part state held s.a) (parent_at part state held s.b) line s r
+    Judges depth state.clauses (parent_at part state held s.numbers.a) (parent_at part state held s.numbers.b) line s r
 
 -- Of a line, where what is held represents a state: the line as the reader gives it, where it passes checks 2 to 11, or the first that it
 -- fails.

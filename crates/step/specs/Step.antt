@@ -25,7 +25,7 @@ parent_at part state held n =
 -- Checks 7 to 11 of a step, over its parents.
 unfoldable pub judged_at : ℕ → (ℕ → List ℕ) → HeldState → List Held → List ℕ → StepAt → Checked
 judged_at depth part state held line s =
-    step_at depth state.clauses (parent_at part state held s.a) (parent_at part state held s.b) line s
+    step_at depth state.clauses (parent_at part state held s.numbers.a) (parent_at part state held s.numbers.b) line s
 
 -- Checks 7 to 11 of a line: only a step can fail them.
 unfoldable pub line_judged : ℕ → (ℕ → List ℕ) → HeldState → List Held → List ℕ → LineAt → Checked
@@ -46,7 +46,7 @@ checked_at depth part state held line = then_judged depth part state held line (
 unfoldable pub parents_at : LineAt → Parents
 parents_at (Sym k) = no_parents
 parents_at (Input c) = no_parents
-parents_at (By s) = parents_by s.rule s.a s.b
+parents_at (By s) = parents_by s.rule s.numbers.a s.numbers.b
 
 -- What the figures leave after so many bytes and lines.
 unfoldable pub left_of : Figures → ℕ → ℕ → Figures

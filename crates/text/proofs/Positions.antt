@@ -1,15 +1,14 @@
 -- Positions in a text: the bytes from a place on, and the place where they begin.
-use Prim.Native.Nat.{ℕ, zero, suc, ◌+◌, ◌-◌, ◌≤◌, ◌<◌}
+use Prim.Native.Nat.{ℕ, zero, suc, ◌+◌, ◌-◌, ◌≤◌}
 use mathlib.Core.Path.{◌≡◌, refl, sym}
 use mathlib.Core.List.{List, [], ◌∷◌, ◌++◌}
 use native.Mathlib.Omega.{arith}
-use lib.ListN.{length, take, drop, get_or, replicate, length-drop, length-append, drop_of_length-le, get_or-eq_default}
+use lib.ListN.{length, drop, replicate, length-drop, length-append, drop_of_length-le}
 use lib.Seq.{drop-drop, drop_at, drop-length}
 use native.Mathlib.Decide.{dec_le}
-use borrow.Author.Tests.{lt-ltb, le-ltb, le-leb, lt-leb}
 use lib.Dec.{eqb}
 use Rattle.text.specs.Read.{Parsed, bad, got, Reader, and_then, ◌>>◌, strip}
-use Rattle.text.proofs.Places.{end_of, places, entry_of}
+use Rattle.text.proofs.Places.{end_of, places}
 use Rattle.text.specs.Access.{closing, skip_item, pass_item, to_item}
 use Rattle.text.proofs.Tests.{on_test}
 use Rattle.text.proofs.Gives.{Gives, nothing, gives, given, weaken, bind, strip_gives, Sound}
@@ -93,11 +92,6 @@ unfolding to_item
 item_tail zero = strip_tail (32 ∷ [])
 item_tail (suc n) = and_tail pass_tail (item_tail n)
 
--- Straight chains of walks.
-pub pass_end : (s : List ℕ) (at : ℕ) → end_of s (pass_item (drop at s)) ≡ end_of s (skip_item (drop (end_of s (strip (32 ∷ []) (drop at s))) s))
-unfolding pass_item skip_item strip
-pass_end s at = then_end s at (strip_tail (32 ∷ [])) skip_item refl
-
 -- Past the end there are no more items.
 pub places_past : (s : List ℕ) (n : ℕ) → places s n (length s + 1) ≡ replicate n (length s + 1)
 unfolding places pass_item strip end_of
@@ -108,22 +102,3 @@ places_past s (suc n) = let l : length s ≤ length s + 1 = omega arith in rw (d
 pub landed : {A : Type 0} (s : List ℕ) (at : ℕ) {read : Reader A} {a : A} {rest : List ℕ} → Tail read → read (drop at s) ≡ got a rest → (end_of s (read (drop at s)) ≤ length s) × (drop (end_of s (read (drop at s))) s ≡ rest)
 unfolding end_of
 landed s at {rest} t e = rw e (omega arith, end_drop s at rest (given (t.tail (drop at s)) e))
-
--- The entry that stands between two places, and that there is none.
-module _ (s starts : List ℕ) (n : ℕ) where
-  pub entry_none : length starts ≤ n + 1 → [] ≡ entry_of s starts n
-  unfolding entry_of
-  entry_none h = rw (get_or-eq_default starts 0 {n = n + 1} h, le-ltb (get_or starts n 0) 0 (omega arith))
-
-  pub entry_turned : get_or starts (n + 1) 0 ≤ get_or starts n 0 → [] ≡ entry_of s starts n
-  unfolding entry_of
-  entry_turned h = rw (le-ltb _ _ h)
-
-  module _ (h : get_or starts n 0 < get_or starts (n + 1) 0) where
-    pub entry_past : length s < get_or starts (n + 1) 0 → [] ≡ entry_of s starts n
-    unfolding entry_of
-    entry_past l = rw (lt-ltb _ _ h, lt-leb _ _ l)
-
-    pub entry_here : get_or starts (n + 1) 0 ≤ length s → take (get_or starts (n + 1) 0 - (get_or starts n 0 + 1)) (drop (get_or starts n 0 + 1) s) ≡ entry_of s starts n
-    unfolding entry_of
-    entry_here l = rw (lt-ltb _ _ h, le-leb _ _ l)

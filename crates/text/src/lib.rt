@@ -9,7 +9,7 @@ pub const LINES: usize = 1024;
 pub const DEPTH: u8 = 16;
 
 // The figures that go by the place of use: the bytes and lines of a text (T18), and how many terms deep its terms nest (T12).
-#[derive(Clone, Copy)]
+#[derive(Clone, Copy, Debug, PartialEq, Eq)]
 pub struct Figures {
     pub bytes: usize,
     pub lines: usize,

@@ -1,5 +1,5 @@
 -- Where the text ends: the first clause without literals, and the answer.
-use Rattle.std.proofs.Common.{ℕ, suc, ◌+◌, ◌≤◌, ◌<◌, ◌≡◌, ◌==◌, Bool, true, false, cond, List, [], ◌∷◌, length, get_or, take, map, Option, Some, None, refl, ap, ◌∙◌, arith}
+use Rattle.std.proofs.Common.{ℕ, suc, ◌+◌, ◌≤◌, ◌<◌, ◌≡◌, ◌==◌, Bool, true, false, cond, List, [], ◌∷◌, length, get_or, take, map, Some, None, refl, ◌∙◌, arith}
 use Rattle.std.specs.List.{position_or_len}
 use borrow.Author.Tests.{eq-eqb, ne_eqb, ltb-true}
 use lib.Dec.{eqb, ltb}
@@ -8,7 +8,6 @@ use Rattle.logic.specs.Syntax.{Clause}
 use Rattle.logic.specs.declared.Check.{Check}
 use Rattle.state.specs.declared.HeldState as code
 use Rattle.state.specs.State.{State, claim_of, clauses, has_constant}
-use Rattle.state.specs.ReadLine.{held_table}
 use Rattle.state.specs.Represents.{Represents}
 use Rattle.logic.specs.Reach.{ParentsFall, rests_on}
 use Rattle.text.specs.Figures.{office}
@@ -61,25 +60,21 @@ marks_place n inputs held before false = refl
 
 -- The answer, from what the state that the code holds says.
 module _ {depth : ℕ} {part : ℕ → List ℕ} {state : code.HeldState} {st : State} (R : Represents depth part state st) where
-  module _ {held : List Held} {constant : Bool} {first : Option ℕ} (K : Keeps st held) (falls : ParentsFall (length st.inputs) st.steps) (room : state.clauses ≤ office.lines)
-      (c : constant ≡ has_constant (held_table state)) (f : first ≡ first_without held state.clauses) where
+  module _ {held : List Held} (K : Keeps st held) (falls : ParentsFall (length st.inputs) st.steps) (room : state.clauses ≤ office.lines) where
     abbrev place : ℕ
     place = first_empty (clauses st)
 
-    constant_is : constant ≡ has_constant st.symbols
-    constant_is = c ∙ ap has_constant R.table
-
-    first_is : first ≡ cond (ltb place state.clauses) (Some place) None
+    first_is : first_without held state.clauses ≡ cond (ltb place state.clauses) (Some place) None
     unfolding first_without
     first_is =
         let long = held_length st held K.sized in
         let e = first_place (clauses st) held (omega (arith, R.count, long)) K.sized.literals_of in
         let l : length (take (length (clauses st)) held) ≡ length (clauses st) = length-take (length (clauses st)) held ∙ omega (arith, R.count, long) in
-        f ∙ rw (R.count, e, l)
+        rw (R.count, e, l)
 
-    pub ends_held : ends_as constant state.clauses first ≡ finish st
+    pub ends_held : ends_as state held ≡ finish st
     unfolding ends_as finish accepted_as
-    ends_held = rw (constant_is, first_is, with_place state.clauses place (ltb place state.clauses), R.count)
+    ends_held = rw (R.table, first_is, with_place state.clauses place (ltb place state.clauses), R.count)
 
     walked : place < state.clauses → named (inputs_from held state.inputs place) ≡ rests_on (length st.inputs) st.steps place
     unfolding named
@@ -88,10 +83,10 @@ module _ {depth : ℕ} {part : ℕ → List ℕ} {state : code.HeldState} {st : 
         (walk_rests (length st.inputs) st.steps held K.parents falls (omega (arith, R.count, clause_count st)) place (omega (arith, R.count, clause_count st)))
 
     -- The inputs that are named: none, or those that the walk back marks.
-    pub marks_held : (before : List Bool) → named before ≡ [] → named (marks_as constant first state.inputs held before) ≡ rests_in st (finish st)
-    unfolding ends_as accepted_as marks_as rests_in finish
+    pub marks_held : (before : List Bool) → named before ≡ [] → named (marks_as state held before) ≡ rests_in st (finish st)
+    unfolding accepted_as marks_as rests_in finish
     marks_held before z =
-        rw (constant_is, first_is, marks_place place state.inputs held before (ltb place state.clauses), ← R.count)
+        rw (R.table, first_is, marks_place place state.inputs held before (ltb place state.clauses), ← R.count)
         (go (has_constant st.symbols) (ltb place state.clauses) refl)
       where
         go : (b d : Bool) → ltb place state.clauses ≡ d → named (cond b (cond d (inputs_from held state.inputs place) before) before) ≡ rests_in st (cond b (cond d (Refuted state.clauses place) (Open state.clauses)) (Refused Check.Constant 0))

@@ -8,7 +8,7 @@ use native.Mathlib.Omega.{arith}
 use native.Mathlib.Numerals.{add-one}
 use native.Mathlib.Decide.{dec_lt}
 use borrow.Author.Tests.{ltb-false}
-use Rattle.std.proofs.Common.{Option, Some, Ok, Err}
+use Rattle.std.proofs.Common.{Some, Ok, Err}
 use lib.Dec.{T, ltb}
 use lib.ListN.{length, set, take, drop, length-append, length-map, take-append-drop}
 use lib.Seq.{get_or-set_same, get_or-set_other, take_at}
@@ -19,7 +19,7 @@ use Rattle.logic.specs.declared.Check.{Check}
 use Rattle.logic.specs.StepChecks.{Checked}
 use Rattle.descent.specs.declared.Held.{Held}
 use Rattle.descent.specs.Walk.{parents_of, parents_held, nothing_held, HeldFrom}
-use Rattle.outcome.specs.Ends.{first_without, ends_as, marks_as}
+use Rattle.outcome.specs.Ends.{ends_as, marks_as}
 use Rattle.state.specs.declared.HeldState as code
 use Rattle.state.specs.declared.Added.{Added}
 use Rattle.text.specs.Form.{Reading, form, no_form}
@@ -31,8 +31,8 @@ use Rattle.text.specs.Size.{line_length, first_line}
 use Rattle.reader.specs.declared.forms.LineAt.{LineAt}
 use Rattle.reader.specs.declared.forms.LineAt.TheVariants.{Sym, By}
 use Rattle.reader.specs.LineAt.{step_of, line_of}
-use Rattle.state.specs.ReadLine.{held_table, clause_added, added_by, with_added}
-use Rattle.state.specs.State.{State, fresh, claim_of, clauses, has_constant, advance, ordered, after, state_after}
+use Rattle.state.specs.ReadLine.{clause_added, added_by, with_added}
+use Rattle.state.specs.State.{State, fresh, claim_of, clauses, advance, ordered, after, state_after}
 use Rattle.state.specs.Failure.{line_failure, read_failure}
 use Rattle.state.proofs.StateCode.{passed_both}
 use Rattle.state.specs.Represents.{Represents, Begins, LineStands, Adds}
@@ -277,15 +277,14 @@ module _ {F : Figures} {part : ℕ → List ℕ} {text rest : List ℕ} {at line
       let e : rest ≡ [] = no_length rest h in
       (P.onward ∙ rw e, rw (before_end P e, ← P.read))
 
-  pub finished : length rest ≡ 0 → {constant : Bool} {first : Option ℕ} {v : Verdict} {marks : List Bool} (before : List Bool) → v ≡ ends_as constant state.clauses first →
-      marks ≡ marks_as constant first state.inputs held before → constant ≡ has_constant (held_table state) →
-      first ≡ first_without held state.clauses → named before ≡ [] → (v ≡ read_on fresh 1 (readings F text)) × (named marks ≡ rests_in (state_of F text) v)
-  finished h before e m c f z =
+  pub finished : length rest ≡ 0 → {v : Verdict} {marks : List Bool} (before : List Bool) → v ≡ ends_as state held → marks ≡ marks_as state held before →
+      named before ≡ [] → (v ≡ read_on fresh 1 (readings F text)) × (named marks ≡ rests_in (state_of F text) v)
+  finished h before e m z =
       let st = P.st in
       let falls = given_falls st.symbols st.inputs st.steps P.good.given in
-      let q = e ∙ ends_held P.holds P.kept falls held_within c f in
+      let q = e ∙ ends_held P.holds P.kept falls held_within in
       let (w, g) = reached_end h in
-      (q ∙ sym w, ap named m ∙ marks_held P.holds P.kept falls held_within c f before z ∙ rw (g, q))
+      (q ∙ sym w, ap named m ∙ marks_held P.holds P.kept falls held_within before z ∙ rw (g, q))
 
   -- What is held once the next line passes.
   module _ (z : failure P.st (read_line F.depth (first_line rest)) ≡ Ok tt) (l : LineAt) (is : line_of P.st.symbols (first_line rest) (read_line F.depth (first_line rest)) ≡ Some l)

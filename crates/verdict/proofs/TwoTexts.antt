@@ -36,7 +36,7 @@ use Rattle.meaning.specs.Checks.{readings, state_of}
 use Rattle.meaning.specs.Means.{named}
 use Rattle.meaning.specs.Guarantee.{is_accepted}
 use Rattle.meaning.specs.Answer.{failure, first_empty, accepted_as, finish, read_on, verdict, rests_in, rests, jointly}
-use Rattle.verdict.specs.Running.{Answers, text_read, lines_before, lines_length, lines_passed, state_read, StopsAt, told, line_ahead, next_at, held_with}
+use Rattle.verdict.specs.Running.{Answers, text_read, lines_before, lines_length, lines_passed, state_read, StopsAt, told, line_ahead, AheadFailing, next_at, held_with}
 use Rattle.step.specs.Step.{parents_at, left_of, seam_failure, checked_at}
 use Rattle.step.specs.Line.{FirstFailing}
 use Rattle.verdict.proofs.Kept.{Keeps}
@@ -144,11 +144,14 @@ unfolding finish
 finish_unaccepted st e = rw e
 
 -- Where all lines have passed the verdict names none.
-ends_all : (constant : Bool) (count : ℕ) (first : Option ℕ) (raws : List Raw) → lines_before (ends_as constant count first) raws ≡ raws
+ends_all : (state : code.HeldState) (held : List Held) (raws : List Raw) → lines_before (ends_as state held) raws ≡ raws
 unfolding ends_as accepted_with lines_before
-ends_all false count first raws = refl
-ends_all true count (Some first) raws = refl
-ends_all true count None raws = refl
+ends_all state held raws = go (has_constant (held_table state)) (first_without held state.clauses)
+  where
+    go : (constant : Bool) (first : Option ℕ) → lines_before (cond constant (accepted_with state.clauses first) (Refused Check.Constant 0)) raws ≡ raws
+    go false first = refl
+    go true (Some first) = refl
+    go true None = refl
 
 base_passed : (base job : List ℕ) (at : ℕ) → length (part_at base job at) ≡ 0 → length base ≤ at
 base_passed base job at h = go (dec_lt at (length base))
@@ -353,22 +356,21 @@ module _ (F : Figures) (base job : List ℕ) (u : UpToOffice F) (small : too_lar
         go (no q) (inr (J, l)) = ahead (inr J, J.left ∙ sym (part_job base job at J.within))
 
     -- All lines are read.
-    pub came_end : length base + min (length job) (office.bytes + 1) ≤ at → {constant : Bool} {first : Option ℕ} {v : Verdict} {marks : List Bool} (before : List Bool) →
-        v ≡ ends_as constant state.clauses first → marks ≡ marks_as constant first state.inputs held before → constant ≡ has_constant (held_table state) →
-        first ≡ first_without held state.clauses → named before ≡ [] → Stopped F base job v (named marks) state at
-    came_end e {constant} {first} {v} {marks} before f m c d z = go P.stage
+    pub came_end : length base + min (length job) (office.bytes + 1) ≤ at → {v : Verdict} {marks : List Bool} (before : List Bool) → v ≡ ends_as state held →
+        marks ≡ marks_as state held before → named before ≡ [] → Stopped F base job v (named marks) state at
+    came_end e {v} {marks} before f m z = go P.stage
       where
         h : length (part_at base job at) ≡ 0
         h = part_none base job at e (omega (arith, P.fits))
 
         all : (raws : List Raw) → lines_before v raws ≡ raws
-        all raws = rw f (ends_all constant state.clauses first raws)
+        all raws = rw f (ends_all state held raws)
 
         ended_by : (text : List ℕ) → too_large F text ≡ false → jointly F base job ≡ text → text_read F base job ≡ text → P.text ≡ text → P.rest ≡ [] →
             Stopped F base job v (named marks) state at
         ended_by text s j t q r =
             let R : Reached F (part_at base job) text P.rest at lines state held = rw q at P.reached in
-            stopped_end R t (text_answers text s j (finished R (ap length r) before f m c d z)) r (all (split text))
+            stopped_end R t (text_answers text s j (finished R (ap length r) before f m z)) r (all (split text))
 
         go : Alone base at P.text P.rest ⊎ (Joined F base job at P.text P.rest × (length base < at)) → Stopped F base job v (named marks) state at
         go (inl A) =
@@ -472,8 +474,7 @@ module _ (F : Figures) (base job : List ℕ) (u : UpToOffice F) (small : too_lar
   -- The next line, where the reading came to a place that is not past the two texts.
   module _ {at lines : ℕ} {state : code.HeldState} {held : List Held} (P : Came F base job at lines state held)
       (below : at < length base + min (length job) (office.bytes + 1))
-      (first : seam_failure F state (length base) at lines job ≡ Ok tt →
-      FirstFailing F.depth (part_at base job) state held (line_ahead base job at) (checked_at F.depth (part_at base job) state held (line_ahead base job at))) where
+      (first : AheadFailing F base job state held at lines) where
     some : 0 < length (part_at base job at)
     some = part_some base job at (office.bytes + 1) below
 

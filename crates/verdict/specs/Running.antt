@@ -18,6 +18,7 @@ use Rattle.meaning.specs.Answer.{verdict, rests, jointly}
 use Rattle.descent.specs.declared.Parents.{Parents}
 use Rattle.descent.specs.declared.Held.{Held}
 use Rattle.step.specs.Step.{seam_failure, checked_at}
+use Rattle.step.specs.Line.{FirstFailing}
 
 -- The verdict on a base and a job, and the inputs that it names.
 pub record Answers (F : Figures) (base job : List ℕ) (v : Verdict) (ns : List ℕ) : Type 0 where
@@ -67,6 +68,13 @@ unfoldable pub next_at : Figures → List ℕ → List ℕ → HeldState → Lis
 next_at F base job state held at lines =
     let line = line_ahead base job at in
     told (seam_failure F state (length base) at lines job) (checked_at F.depth (part_at base job) state held line) (length line + 1) (lines + 1)
+
+-- Where nothing fails before that line, what the checks say of it is the first that it fails.
+abbrev pub AheadFailing : Figures → List ℕ → List ℕ → HeldState → List Held → ℕ → ℕ → Type 0
+AheadFailing F base job state held at lines =
+    let line = line_ahead base job at in
+    seam_failure F state (length base) at lines job ≡ Ok tt →
+    FirstFailing F.depth (part_at base job) state held line (checked_at F.depth (part_at base job) state held line)
 
 -- What is held of the clauses with what a line adds, the parents that it uses given: for clause n, where it has a clause.
 unfoldable pub held_with : List Held → ℕ → Parents → Added → List Held

@@ -2,31 +2,30 @@
 // counted.
 #![tactic(auto)]
 
-ghost use Rattle.std.specs.Prelude.{◌+◌, ◌≤◌, ◌<◌, min, ◌≡◌, false, [], length, Ok};
+ghost use Rattle.std.specs.Prelude.{◌+◌, ◌≤◌, ◌<◌, min, ◌≡◌, false, []};
 ghost use Rattle.text.specs.Figures.{office, UpToOffice};
-ghost use Rattle.text.specs.Size.{part_at};
 ghost use Rattle.state.specs.ReadLine.{added_by, with_added};
 ghost use Rattle.state.specs.Represents.{Adds};
-ghost use Rattle.step.specs.Step.{seam_failure, checked_at, parents_at};
-ghost use Rattle.step.specs.Line.{FirstFailing};
+ghost use Rattle.step.specs.Step.{parents_at};
 ghost use Rattle.meaning.specs.Checks.{too_large};
 ghost use Rattle.meaning.specs.Means.{Means, named};
 ghost use Rattle.meaning.specs.Answer.{verdict, rests, jointly};
 ghost use Rattle.meaning.specs.Guarantee.{Guarantee};
 ghost use Rattle.meaning.specs.Job.{JobMeans, JobGuarantee};
-ghost use Rattle.verdict.specs.Running.{Answers, StopsAt, line_ahead, next_at, held_with};
+ghost use Rattle.verdict.specs.Running.{Answers, StopsAt, AheadFailing, next_at, held_with};
 
 use descent::{Held, Parents};
 use logic::Check;
 use meaning::{Answer, Verdict};
-use outcome::{finish, first_empty};
+use outcome::finish;
 use reader::forms::LineAt;
-use source::{first_line, part_at, too_large};
+use source::{Texts, first_line, too_large};
 use state::{Added, HeldState, adds};
-use step::{checked, parents, seam};
+use step::{Before, parents};
 use text::{BYTES, DEPTH, Figures, LINES};
 
-// Where a reading stopped: the verdict, the state after the lines that passed, and how far they reach: the place of the line that failed.
+// Where a reading stopped: the verdict, the state after the lines that passed, and how far they reach: the place of the line that failed. A
+// verdict, where `JobRead` has an answer: its marks are lent to the loop, and one type for both would have to be told which it holds.
 #[derive(Drop)]
 struct Stop {
     verdict: Verdict,
@@ -53,32 +52,26 @@ fn reach(base: usize, job: usize) -> usize
 // The line that begins at `at`, after so many lines, and how many bytes it is with its line end; or the refusal, if it fails, or if what is
 // asked before it fails, where the base ends and the job begins.
 #[tactic(auto, unfolding(crate::specs::Running::next_at, crate::specs::Running::told))]
-fn next_line<'a>(
-    base: &'a [u8],
-    job: &'a [u8],
+fn next_line(
+    before: Before<'_>,
     figures: Figures,
-    state: &HeldState,
-    held: &[Held; LINES],
     at: usize,
     lines: usize,
 ) -> Result<(LineAt, usize), Verdict>
     requires { lines ≤ office.lines }
-    ensures value { result ≡ next_at figures base.now job.now state.now held.now at lines }
-    ensures first_failing { seam_failure figures state.now (length base.now) at lines job.now ≡ Ok tt →
-        FirstFailing figures.depth (part_at base.now job.now) state.now held.now (line_ahead base.now job.now at)
-        (checked_at figures.depth (part_at base.now job.now) state.now held.now (line_ahead base.now job.now at)) }
+    ensures value { result ≡ next_at figures before.entry.texts.base.now before.entry.texts.job.now before.entry.state.now before.entry.held.now at lines }
+    ensures first_failing { AheadFailing figures before.entry.texts.base.now before.entry.texts.job.now before.entry.state.now before.entry.held.now at lines }
 {
-    seam(figures, state, base.len(), at, lines, job).map_err(|check| Verdict::Refused {
-        check,
-        line: 0,
-    })?;
-    let bytes = first_line(part_at(base, job, at));
-    let line = checked(figures.depth, base, job, state, held, bytes).map_err(
-        |check| Verdict::Refused {
+    before
+        .seam(figures, at, lines)
+        .map_err(|check| Verdict::Refused { check, line: 0 })?;
+    let bytes = first_line(before.texts.part_at(at));
+    let line = before
+        .checked(figures.depth, bytes)
+        .map_err(|check| Verdict::Refused {
             check,
             line: lines + 1,
-        },
-    )?;
+        })?;
     Ok((line, bytes.len() + 1))
 }
 
@@ -105,21 +98,28 @@ fn hold(held: &mut [Held; LINES], n: usize, used: Parents, added: Added)
 // The lines of the base and then those of the job, one after the other, up to the first that fails. The state is handed on and comes back
 // after each line; beside it the loop holds of each clause the parents that it uses, its number of literals and its width. The inputs on
 // which a refutation rests are marked in rests, where nothing is marked before.
-fn read_on<'a>(base: &'a [u8], job: &'a [u8], figures: Figures, rests: &mut [bool; LINES]) -> Stop
-    requires { (too_large figures base.now ≡ false) × UpToOffice figures × (named rests.old ≡ []) }
-    ensures answers { Answers figures base.now job.now result.verdict (named rests.new) }
-    ensures stops_at { StopsAt figures base.now job.now result.state result.at }
+fn read_on(texts: Texts<'_>, figures: Figures, rests: &mut [bool; LINES]) -> Stop
+    requires { (too_large figures texts.base.now ≡ false) × UpToOffice figures × (named rests.old ≡ []) }
+    ensures answers { Answers figures texts.entry.base.now texts.entry.job.now result.verdict (named rests.new) }
+    ensures stops_at { StopsAt figures texts.entry.base.now texts.entry.job.now result.state result.at }
 {
-    let whole = reach(base.len(), job.len());
+    let whole = reach(texts.base.len(), texts.job.len());
     let mut state = HeldState::fresh();
+    // Beside the state, whose form is asked for, and not moved with it.
     let mut held = [Held::NONE; LINES];
     let mut at = 0;
     let mut lines = 0;
+    // No `for`: each turn says how far the next begins.
     while at < whole {
-        match next_line(base, job, figures, &state, &held, at, lines) {
+        let before = Before {
+            texts,
+            state: &state,
+            held: &held,
+        };
+        match next_line(before, figures, at, lines) {
             Ok((line, length)) => {
-                let added = adds(at, state.inputs, line);
-                hold(&mut held, state.clauses, parents(line), added);
+                let added = adds(at, state.inputs, &line);
+                hold(&mut held, state.clauses, parents(&line), added);
                 match added {
                     Added::Symbol(count) => state = state.with_symbol(count),
                     Added::Clause { start, inputs, .. } => state = state.with_clause(start, inputs),
@@ -130,33 +130,19 @@ fn read_on<'a>(base: &'a [u8], job: &'a [u8], figures: Figures, rests: &mut [boo
             Err(verdict) => return Stop { verdict, state, at },
         }
     }
-    let count = state.clauses;
-    let first = first_empty(&held, count);
-    let verdict = finish(
-        state.has_constant(),
-        count,
-        first,
-        state.inputs,
-        &held,
-        rests,
-    );
+    let verdict = finish(&state, &held, rests);
     Stop { verdict, state, at }
 }
 
 // The verdict on a base and a job: check 1 of the base, and then the lines. The inputs on which a refutation rests are marked in rests,
 // where nothing is marked before.
-fn verdict_on<'a>(
-    base: &'a [u8],
-    job: &'a [u8],
-    figures: Figures,
-    rests: &mut [bool; LINES],
-) -> Stop
+fn verdict_on(texts: Texts<'_>, figures: Figures, rests: &mut [bool; LINES]) -> Stop
     requires { UpToOffice figures × (named rests.old ≡ []) }
-    ensures answers { Answers figures base.now job.now result.verdict (named rests.new) }
-    ensures stops_at { StopsAt figures base.now job.now result.state result.at }
+    ensures answers { Answers figures texts.entry.base.now texts.entry.job.now result.verdict (named rests.new) }
+    ensures stops_at { StopsAt figures texts.entry.base.now texts.entry.job.now result.state result.at }
 {
-    if !too_large(base, figures) {
-        return read_on(base, job, figures, rests);
+    if !too_large(texts.base, figures) {
+        return read_on(texts, figures, rests);
     }
     Stop {
         verdict: Verdict::Refused {
@@ -182,7 +168,7 @@ pub fn read_job<'a>(base: &'a [u8], job: &'a [u8]) -> JobRead
         depth: DEPTH,
     };
     let mut rests = [false; LINES];
-    let Stop { verdict, state, at } = verdict_on(base, job, figures, &mut rests);
+    let Stop { verdict, state, at } = verdict_on(Texts { base, job }, figures, &mut rests);
     JobRead {
         answer: Answer { verdict, rests },
         state,

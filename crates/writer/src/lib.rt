@@ -1,5 +1,6 @@
-// Bytes and numbers written at the start of a buffer. Behind what is written its rest is lent on, `&mut out[at..]`. Where there is not room
-// for all, as much is written as there is room for. `write!` into a buffer promises nothing of the bytes that stand there, and `put` does.
+// Bytes and numbers written at the start of a buffer. Behind what is written its rest is lent on, `&mut out[at..]`, which is the form that
+// is asked for. Where there is not room for all, as much is written as there is room for. `write!` into a buffer promises nothing of the
+// bytes that stand there, and `put` does.
 #![tactic(auto)]
 
 ghost use Rattle.std.specs.Prelude.{◌≤◌, ◌≡◌, length};

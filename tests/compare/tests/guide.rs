@@ -199,7 +199,7 @@ fn the_version_is_that_of_the_last_change() {
     let headings = changes.lines().filter_map(|line| line.strip_prefix("## "));
     let (number, _) = headings.last().unwrap().split_once('.').unwrap();
     let source = fs::read_to_string(root().join("crates/console/src/lib.rt")).unwrap();
-    assert!(source.contains(&format!("\"{{name}} 0.{number}\"")), "{number}");
+    assert!(source.contains(&format!("b\" 0.{number}\\n\"")), "{number}");
 }
 
 #[test]

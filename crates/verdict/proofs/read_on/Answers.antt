@@ -19,7 +19,7 @@ loop-at-init c =
     came_first _ _ _ p.1 p.0 _ _ c.fresh-state.ensures.begins (length-replicate {A = Held} office.lines nothing_held)
 
 -- A line that passes.
-passes : (c : In-Ok) → let l = c.loop-at in Passes c.args.figures c.args.base.now c.args.job.now l.at l.lines l.state l.held c.in-Ok.line c.in-Ok.length
+passes : (c : In-Ok) → let l = c.loop-at in Passes c.args.figures c.args.texts.base.now c.args.texts.job.now l.at l.lines l.state l.held c.in-Ok.line c.in-Ok.length
 passes c =
     let p = c.requires in
     next_passes _ _ _ p.1 p.0 c.loop-at.invariant (omega (arith, c.reach-whole.ensures, c.loop-at-test.true)) c.in-Ok.ensures.first_failing c.in-Ok.ensures.value
@@ -43,7 +43,7 @@ loop-at-preserved c =
       | in-Symbol w ↦ rw (w.in-Symbol.is) (w.state-is ∙ w.with_symbol-state.ensures)
       | in-Clause w ↦ rw (w.in-Clause.is) (w.state-is ∙ w.with_clause-state.ensures)
     ] in
-    came_as (r.onward (rw e.value at e.adds)) (cc (s, e.value)) (cc (e.value, c.hold.ensures, c.parents.ensures))
+    came_as (r.onward (rw e.value at e.adds)) (cc (s, e.value)) (cc (e.value, c.hold.ensures, c.parents.ensures.value))
 
 pub returns-in-Err-clause-answers : goal.returns-in-Err-clause-answers
 returns-in-Err-clause-answers c =
@@ -60,10 +60,10 @@ pub returns-clause-answers : goal.returns-clause-answers
 returns-clause-answers c =
     let p = c.requires in
     let w = c.finish-verdict.ensures in
-    (came_end _ _ _ p.1 p.0 c.loop-at.invariant (omega (arith, c.reach-whole.ensures, c.loop-at-test.false)) _ w.value w.rests_after c.has_constant.ensures.value c.first_empty-first.ensures.value p.2).0
+    (came_end _ _ _ p.1 p.0 c.loop-at.invariant (omega (arith, c.reach-whole.ensures, c.loop-at-test.false)) _ w.value w.rests_after p.2).0
 
 pub returns-clause-stops_at : goal.returns-clause-stops_at
 returns-clause-stops_at c =
     let p = c.requires in
     let w = c.finish-verdict.ensures in
-    (came_end _ _ _ p.1 p.0 c.loop-at.invariant (omega (arith, c.reach-whole.ensures, c.loop-at-test.false)) _ w.value w.rests_after c.has_constant.ensures.value c.first_empty-first.ensures.value p.2).1
+    (came_end _ _ _ p.1 p.0 c.loop-at.invariant (omega (arith, c.reach-whole.ensures, c.loop-at-test.false)) _ w.value w.rests_after p.2).1

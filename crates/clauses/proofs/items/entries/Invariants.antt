@@ -1,6 +1,6 @@
-use Rattle.clauses.specs.Entries.{texts}
-use Rattle.clauses.proofs.Listing.{Listing}
+use Rattle.std.proofs.Common.{◌≡◌, ◌-◌, ◌++◌, length, take}
+use Rattle.clauses.specs.Entries.{items, texts}
 use Rattle.clauses.proofs.items.entries.Given as goal
 
 abbrev pub invariant-loop-n : goal.invariant-loop-n
-invariant-loop-n l = Listing l.initial.rest (texts l.found) l.rest l.n
+invariant-loop-n l = (length l.found ≡ 32) × (take l.n (texts l.found) ++ items (32 - l.n) l.rest ≡ items 32 l.initial.rest)

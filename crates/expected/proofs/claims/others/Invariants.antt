@@ -5,4 +5,4 @@ use Rattle.expected.proofs.claims.others.Given as goal
 
 abbrev pub invariant-loop-n : goal.invariant-loop-n
 invariant-loop-n l =
-    others_from l.depth l.dropped l.count 0 (beside (item_of l.clause) l.initial.literals) l.rest ≡ others_from l.depth l.dropped (l.count - l.n) l.n (beside (item_of l.clause) l.literals) l.left
+    others_from l.depth l.of.dropped l.of.literals 0 (beside (item_of l.of.clause) l.initial.literals) l.rest ≡ others_from l.depth l.of.dropped (l.of.literals - l.n) l.n (beside (item_of l.of.clause) l.literals) l.left

@@ -1,25 +1,11 @@
-use Rattle.reader.proofs.Listing.{start, lost, smaller, turn, unclosed, finish, closed}
+use Rattle.std.proofs.Common.{refl, arith}
+use Rattle.reader.proofs.Lists.{term_no_longer, term_list}
 use Rattle.reader.proofs.context.Context.+terms.Goals as goal
 
-pub terms-loop-next-init : goal.terms-loop-next-init
-terms-loop-next-init t c = rw c.empty-parts.ensures (start _ _)
-
-pub terms-returns-in_err-part-clause-value : goal.terms-returns-in_err-part-clause-value
-terms-returns-in_err-part-clause-value t c =
-    rw c.from_residual.ensures (lost _ c.loop-next.invariant c.in-Some.ensures.value c.in_err-part.ensures)
-
-pub terms-loop-next-smaller : goal.terms-loop-next-smaller
-terms-loop-next-smaller t c = smaller _ c.loop-next.invariant c.in-Some.ensures.value c.in_ok-part.ensures
-
-pub terms-loop-next-preserved : goal.terms-loop-next-preserved
-terms-loop-next-preserved t c = turn _ c.loop-next.invariant c.in-Some.ensures.value c.in_ok-part.ensures c.and-parts.ensures
-
-pub terms-returns-in_err-rest-clause-value : goal.terms-returns-in_err-rest-clause-value
-terms-returns-in_err-rest-clause-value t c =
-    rw c.from_residual-in_err-rest.ensures (unclosed _ c.loop-next.invariant c.in_default.ensures.value c.in_err-rest.ensures.value)
+pub terms-many-requires : goal.terms-many-requires
+terms-many-requires t c κs =
+    let here = c.args.self in ((refl, tt), ((λ x. (omega arith, tt)), λ x r e. term_no_longer here.depth here.table.now x.now r e.1))
 
 pub terms-returns-clause-value : goal.terms-returns-clause-value
-terms-returns-clause-value t c = finish _ c.loop-next.invariant c.in_default.ensures.value c.in_ok-rest.ensures.value
-
-pub terms-returns-clause-few : goal.terms-returns-clause-few
-terms-returns-clause-few t c = closed _ c.loop-next.invariant c.in_default.ensures.value c.in_ok-rest.ensures.value
+terms-returns-clause-value t c =
+    let here = c.args.self in c.many.ensures.value _ _ (term_list here.depth here.table.now) (λ x r e. e.1)
