@@ -1,7 +1,7 @@
 #!/usr/bin/env python3
 """places.py [FOLDER] [-v]: counts the places of docs/DESIGN-PASS.md in crates/*/src of a checkout (this one, if none is named).
 -v lists them. For an older commit: git archive COMMIT crates | tar -x -C FOLDER."""
-import glob, os, re, sys
+import collections, glob, itertools, os, re, sys
 
 args = [a for a in sys.argv[1:] if a != '-v']
 verbose = '-v' in sys.argv
@@ -35,7 +35,7 @@ def split(parameters):
 
 def functions():
     """Each function: file, name, parameters, result, body."""
-    head = re.compile(r'^( *)(?:pub )?(?:const )?(?:extern "C" )?fn (\w+)(?:<[^({;]*>)?\(', re.M)
+    head = re.compile(r'^( *)(?:pub(?:\(crate\))? )?(?:const )?(?:extern "C" )?fn (\w+)(?:<[^({;]*>)?\(', re.M)
     for path, text in sources():
         for m in head.finditer(text):
             end = balanced(text, m.end())
@@ -74,8 +74,27 @@ def twins():
     return ['; '.join(g) for g in groups.values() if len(g) > 1]
 
 
+def together():
+    """Two parameters, by name and type, that stand together in three functions or more."""
+    pairs = collections.defaultdict(set)
+    for path, name, parameters, result, body in functions():
+        named = [re.sub(r"'\w+ ?", '', p) for p in parameters if not re.fullmatch(r'&?(mut )?self', p)]
+        for pair in itertools.combinations(named, 2):
+            pairs[pair].add('%s: %s' % (path, name))
+    return ['%s, %s: %s' % (a, b, '; '.join(sorted(where))) for (a, b), where in pairs.items() if len(where) >= 3]
+
+
+def facts():
+    """What stands in three contracts or more."""
+    found = collections.defaultdict(int)
+    for path, text in sources():
+        for m in re.finditer(r'^\s*(?:requires|ensures) ?(?:\w+ )?\{(.*?)\}\s*$', text, re.M | re.S):
+            found[' '.join(m.group(1).split())] += 1
+    return ['%d times: %s' % (n, fact) for fact, n in found.items() if n >= 3]
+
+
 PLACES = r'crates/(scan|reader|clauses|filling|agreement|expected|rule_table|rules)/'
-REAL = {'tally', 'item_depth', 'hole_depth', 'dropped', 'place', 'number'}
+REAL = {'tally', 'count', 'in_block', 'item_depth', 'hole_depth', 'dropped', 'place', 'number'}
 
 counts = [
     ('1', 'functions that answer a place, or 0, where past the end or 0 says that there is none',
@@ -87,14 +106,18 @@ counts = [
            r'|pub failure: |^    pub symbol: bool|^    pub (shaped|arrows): bool|LINES as u16')),
     ('1', 'functions that answer the number of a check, or 0',
      named(r'clause_failure|step_failure|failure|number|failing|seam', lambda f: re.match(r'crates/(state|step)/', f[0]) and f[3] == 'usize')),
+    ('1', 'flags in structs and enums', lines(r'^ +(pub )?\w+: bool,')),
     ('2', 'groups of functions with one body but for names, numbers and texts', twins()),
     ('2', 'types that differ only in the type of a field', lines(r'^(pub )?struct (Number|Link|Arrow|Rule|Sign|Word)At\b')),
     ('3', 'loops that count an index or a place by hand', lines(r'^\s*while [^=]*( (<|<=|>|>=) )')),
+    ('3', 'loops over numbers', lines(r'^\s*for \w+ in [^{]*\.\.')),
     ('4', 'equality, choice, copying, conversion and printing by hand',
      named(r'both|either|equal|choose|larger|least|row|place|byte|wide|length_of|left|slot|size|counted|held|flag_at|marks_in|may_be_none|reach|is_word|between')
      + named(r'number', lambda f: f[0].startswith('crates/step/'))
      + named(r'word|first_number|second_number', lambda f: f[0].startswith('crates/capi/'))),
     ('5', 'functions with five parameters or more', ['%s: %s (%d)' % (f[0], f[1], len(f[2])) for f in functions() if len(f[2]) >= 5]),
+    ('5', 'pairs of parameters that stand together in three functions or more', together()),
+    ('5', 'facts that stand in three contracts or more', facts()),
     ('6', 'parallel arrays by clause number, arrays with their length beside, tables of letters beside tables of what they name',
      lines(r'&(mut )?\[(u8|u16); LINES\]|\[0u(8|16); (LINES|SYMBOLS)\]|counts: &\[u8\]|, 3, b"|, 2, b"|, 1, b"|list: &\[usize\]|(first|second): &\[usize\]|starts: &\[usize\]|; PLACES\]')),
     ('7', 'a switch on which step to run', lines(r'pairs: bool')),

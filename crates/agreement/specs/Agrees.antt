@@ -1,11 +1,12 @@
 -- Nothing here is to be believed: the laws in crates/rules/proofs say what it gives on written clauses. Terms nest at most `depth` deep.
 -- Agreement of filled items in bytes, and of what two arrow atoms have before their results.
-use Rattle.std.specs.Prelude.{ℕ, Bool, false, true, ◌&&◌, ◌||◌, List, Option, Some, None, take}
+use Rattle.std.specs.Prelude.{◌≡◌, ℕ, Bool, false, true, ◌&&◌, ◌||◌, List, Option, Some, None, take}
 use Rattle.text.specs.Read.{Parsed, bad, got, ◌>>◌, strip, skip}
 use Rattle.text.specs.Access.{stood}
 use Rattle.clauses.specs.Shapes.{next, result_of}
 use Rattle.filling.specs.Filled.{same_item, matches, item_depth}
-use Rattle.filling.specs.Items.{Item, beside, by_entries, filled}
+use Rattle.filling.specs.Items.{Item, item_of, beside, by_entries, filled}
+use Rattle.agreement.specs.declared.agree.Pair.{Pair}
 
 unfoldable pub met : Parsed (List ℕ) → Bool
 met bad = false
@@ -25,6 +26,13 @@ unfoldable pub further : (Item → Item → Bool) → Item → Item → Parsed (
 further test x y bad q = false
 further test x y (got u ps) bad = false
 further test x y (got u ps) (got v qs) = test (beside x ps) (beside y qs)
+
+-- The code's pair of what stands further on in both clauses, if in both: a test `further` on is the test of that pair.
+abbrev pub Finds : Pair → Parsed (Unit {0}) → Parsed (Unit {0}) → Option Pair → Type 0
+Finds x p q None = (test : Item → Item → Bool) → further test (item_of x.a) (item_of x.b) p q ≡ false
+Finds x p q (Some y) =
+    (y.depth ≡ x.depth)
+    × ((test : Item → Item → Bool) → further test (item_of x.a) (item_of x.b) p q ≡ test (item_of y.a) (item_of y.b))
 
 -- R18, "same .. argument count, .. method, arguments", from the methods on.
 unfoldable pub parts_agree : ℕ → Item → Item → Bool

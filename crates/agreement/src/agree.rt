@@ -1,55 +1,14 @@
-// Whether filled items agree. Terms nest at most `depth` deep.
+// Whether filled items agree.
 ghost use Rattle.std.specs.Prelude.{◌≡◌};
-ghost use Rattle.filling.specs.Items.{item_of};
-ghost use Rattle.agreement.specs.Agrees.{agrees, parts_agree, calls_agree, has_none, is_bare, is_covered};
+ghost use Rattle.text.specs.Answers.{passed};
+ghost use Rattle.clauses.specs.Shapes.{next as next_of};
+ghost use Rattle.filling.specs.Items.{item_of, beside};
+ghost use Rattle.agreement.specs.Agrees.{Finds, agrees, parts_agree, calls_agree, has_none, is_bare, is_covered};
 
 use crate::same::Lists;
 use clauses::shapes::{next, result};
 use filling::compare::{Filled, item_depth, stands};
 use scan::words::word;
-
-// The two items are the same.
-#[tactic(auto, unfolding(crate::specs::Agrees::agrees_by, crate::specs::Agrees::met, filling::specs::Items::filled_in))]
-pub fn agree(depth: u8, a: Filled<'_>, b: Filled<'_>) -> bool
-    ensures value { result ≡ agrees depth (item_of a.entry) (item_of b.entry) }
-    ensures a_unchanged { (item_of a.exit ≡ item_of a.entry) × (item_of b.exit ≡ item_of b.entry) }
-{
-    let deep = item_depth(depth);
-    match (a.entries, b.entries) {
-        (_, None) => stands(a, deep, b.item).is_some(),
-        (None, _) => stands(b, deep, a.item).is_some(),
-        (Some(first), Some(second)) => {
-            let lists = Lists { first, second };
-            lists.same(a.item, b.item, deep).is_some()
-        }
-    }
-}
-
-// Parts of arrow atoms, from their methods on, have the same method and arguments.
-// `calls` is this with one item more; a loop that counts to three would be no plainer, since it says less than two names.
-#[tactic(auto, unfolding(crate::specs::Agrees::parts_agree, crate::specs::Agrees::further))]
-fn parts(depth: u8, a: Filled<'_>, b: Filled<'_>) -> bool
-    ensures { result ≡ parts_agree depth (item_of a.entry) (item_of b.entry) }
-{
-    agree(depth, a, b)
-        && match (next(a.item), next(b.item)) {
-            (Some(x), Some(y)) => agree(depth, a.beside(x), b.beside(y)),
-            _ => false,
-        }
-}
-
-// Arrow atoms, from their objects on, are alike but for their results.
-#[tactic(auto, unfolding(crate::specs::Agrees::calls_agree, crate::specs::Agrees::further))]
-pub fn calls(depth: u8, a: Filled<'_>, b: Filled<'_>) -> bool
-    ensures value { result ≡ calls_agree depth (item_of a.entry) (item_of b.entry) }
-    ensures a_unchanged { (item_of a.exit ≡ item_of a.entry) × (item_of b.exit ≡ item_of b.entry) }
-{
-    agree(depth, a, b)
-        && match (next(a.item), next(b.item)) {
-            (Some(x), Some(y)) => parts(depth, a.beside(x), b.beside(y)),
-            _ => false,
-        }
-}
 
 // Whether the result of an arrow atom, from its object on, is none.
 #[tactic(auto, unfolding(crate::specs::Agrees::has_none, text::specs::Access::stood))]
@@ -59,23 +18,97 @@ fn has_none(object: &[u8]) -> bool
     result(object).is_some_and(|end| word(end, b"none").is_some())
 }
 
-// The first atom has none and is otherwise the second.
-#[tactic(auto, unfolding(crate::specs::Agrees::is_bare, crate::specs::Agrees::further, text::specs::Access::stood))]
-fn bare(depth: u8, a: Filled<'_>, b: Filled<'_>) -> bool
-    ensures { result ≡ is_bare depth (item_of a.entry) (item_of b.entry) }
-{
-    let head = &a.item[..a.item.len().min(4)];
-    match (word(a.item, head), word(b.item, head)) {
-        (Some(x), Some(y)) => has_none(x) && calls(depth, a.beside(x), b.beside(y)),
-        _ => false,
-    }
+// Two items, each of a clause that is filled. Terms nest at most `depth` deep.
+#[derive(Clone, Copy, Debug, PartialEq, Eq)]
+pub struct Pair<'a> {
+    pub depth: u8,
+    pub a: Filled<'a>,
+    pub b: Filled<'a>,
 }
 
-// The second atom covers the first.
-#[tactic(auto, unfolding(crate::specs::Agrees::is_covered))]
-pub fn covers(depth: u8, a: Filled<'_>, b: Filled<'_>) -> bool
-    ensures value { result ≡ is_covered depth (item_of a.entry) (item_of b.entry) }
-    ensures a_unchanged { (item_of a.exit ≡ item_of a.entry) × (item_of b.exit ≡ item_of b.entry) }
-{
-    agree(depth, a, b) || bare(depth, a, b)
+impl<'a> Pair<'a> {
+    // Other items of the same two clauses, in their order: a struct of two would say no more.
+    pub fn beside(self, a: &'a [u8], b: &'a [u8]) -> Self
+        ensures depth { result.depth ≡ self.entry.depth }
+        ensures items { (item_of result.a ≡ beside (item_of self.entry.a) a.now)
+            × (item_of result.b ≡ beside (item_of self.entry.b) b.now) }
+        ensures self_unchanged { (item_of self.exit.a ≡ item_of self.entry.a) × (item_of self.exit.b ≡ item_of self.entry.b) }
+        ensures a_unchanged { (a.exit.now ≡ a.entry.now) × (b.exit.now ≡ b.entry.now) }
+    {
+        Pair {
+            depth: self.depth,
+            a: self.a.beside(a),
+            b: self.b.beside(b),
+        }
+    }
+
+    // The same, if there are both.
+    #[tactic(auto, unfolding(crate::specs::Agrees::further))]
+    fn further(self, a: Option<&'a [u8]>, b: Option<&'a [u8]>) -> Option<Self>
+        ensures { Finds self.entry (passed a.entry) (passed b.entry) result }
+    {
+        Some(self.beside(a?, b?))
+    }
+
+    // The items after these two.
+    fn next(self) -> Option<Self>
+        ensures { Finds self.entry (next_of self.entry.a.item.now) (next_of self.entry.b.item.now) result }
+    {
+        self.further(next(self.a.item), next(self.b.item))
+    }
+
+    // The two items are the same.
+    #[tactic(auto, unfolding(crate::specs::Agrees::agrees_by, crate::specs::Agrees::met, filling::specs::Items::filled_in))]
+    pub fn agree(self) -> bool
+        ensures value { result ≡ agrees self.entry.depth (item_of self.entry.a) (item_of self.entry.b) }
+        ensures self_unchanged { (item_of self.exit.a ≡ item_of self.entry.a) × (item_of self.exit.b ≡ item_of self.entry.b) }
+    {
+        let Pair { depth, a, b } = self;
+        let deep = item_depth(depth);
+        match (a.entries, b.entries) {
+            (_, None) => stands(a, deep, b.item).is_some(),
+            (None, _) => stands(b, deep, a.item).is_some(),
+            (Some(first), Some(second)) => {
+                let lists = Lists { first, second };
+                lists.same(a.item, b.item, deep).is_some()
+            }
+        }
+    }
+
+    // Parts of arrow atoms, from their methods on, have the same method and arguments.
+    // `calls` is this with one item more; a loop that counts to three would be no plainer, since it says less than two names.
+    #[tactic(auto, unfolding(crate::specs::Agrees::parts_agree))]
+    fn parts(self) -> bool
+        ensures { result ≡ parts_agree self.entry.depth (item_of self.entry.a) (item_of self.entry.b) }
+    {
+        self.agree() && self.next().is_some_and(Pair::agree)
+    }
+
+    // Arrow atoms, from their objects on, are alike but for their results.
+    #[tactic(auto, unfolding(crate::specs::Agrees::calls_agree))]
+    pub fn calls(self) -> bool
+        ensures value { result ≡ calls_agree self.entry.depth (item_of self.entry.a) (item_of self.entry.b) }
+        ensures self_unchanged { (item_of self.exit.a ≡ item_of self.entry.a) × (item_of self.exit.b ≡ item_of self.entry.b) }
+    {
+        self.agree() && self.next().is_some_and(Pair::parts)
+    }
+
+    // The first atom has none and is otherwise the second.
+    #[tactic(auto, unfolding(crate::specs::Agrees::is_bare))]
+    fn bare(self) -> bool
+        ensures { result ≡ is_bare self.entry.depth (item_of self.entry.a) (item_of self.entry.b) }
+    {
+        let head = &self.a.item[..self.a.item.len().min(4)];
+        self.further(word(self.a.item, head), word(self.b.item, head))
+            .is_some_and(|pair| has_none(pair.a.item) && pair.calls())
+    }
+
+    // The second atom covers the first.
+    #[tactic(auto, unfolding(crate::specs::Agrees::is_covered))]
+    pub fn covers(self) -> bool
+        ensures value { result ≡ is_covered self.entry.depth (item_of self.entry.a) (item_of self.entry.b) }
+        ensures self_unchanged { (item_of self.exit.a ≡ item_of self.entry.a) × (item_of self.exit.b ≡ item_of self.entry.b) }
+    {
+        self.agree() || self.bare()
+    }
 }

@@ -4,7 +4,7 @@ ghost use Rattle.clauses.specs.Entries.{texts};
 ghost use Rattle.filling.specs.Filled.{fill_item, indexed, both, same_item};
 ghost use Rattle.filling.specs.Items.{by_entries, compared};
 
-use filling::compare::{Filling, along, entry, expect, index, past};
+use filling::compare::{Filling, along, entry, expect, index};
 use scan::words::word;
 
 // The lists that fill two clauses.
@@ -15,7 +15,8 @@ pub struct Lists<'e> {
 }
 
 impl Lists<'_> {
-    // A variable of the first clause, from its number on: its entry is the item of the second clause, filled. What is left of both.
+    // A variable of the first clause, from its number on: its entry is the item of the second clause, filled. What is left of both. Here
+    // and below the two come and go in their order, and a struct of two would say no more.
     #[tactic(auto, unfolding(filling::specs::Filled::both, filling::specs::Filled::nothing_left, filling::specs::Filled::indexed, filling::specs::Items::by_entries))]
     fn same_entry<'a, 'b>(
         self,
@@ -33,6 +34,7 @@ impl Lists<'_> {
     }
 
     // The items of both clauses, each filled by its own list, are the same: what is left of both.
+    #[tactic(auto, unfolding(filling::specs::Filled::turned, filling::specs::Filled::same_item))]
     pub fn same<'a, 'b>(
         self,
         a: &'a [u8],
@@ -53,8 +55,8 @@ impl Lists<'_> {
             let (left, rest) = turned.same_entry(variable, a, depth)?;
             return Some((rest, left));
         }
-        let inside = past(a, b'(')?;
-        let left = past(b, b'(')?;
+        let inside = word(a, b"(")?;
+        let left = word(b, b"(")?;
         along(
             inside,
             left,

@@ -43,7 +43,8 @@ fn second_number(v: Verdict) -> usize
     }
 }
 
-// Writes each byte of out: byte n is 1 where n is marked, and 0 otherwise.
+// Writes each byte of out: byte n is 1 where n is marked, and 0 otherwise. The marks are read by number. Tried: after a loop over a zip
+// of `iter_mut` nothing is known of the bytes that it wrote, and with `marks.map(u8::from)` (i) of bench/ misses its goal.
 fn put_flags(marks: &[bool; LINES], out: &mut [u8])
     ensures { out.new ≡ flags (length out.old) (named marks.now) }
 {
@@ -80,6 +81,7 @@ pub extern "C" fn fcheck_check_job<'a>(
 }
 
 // The answer to a text, in the same way: a base with no job.
+#[tactic(auto, using(meaning::proofs::Jobs::jointly_nothing))]
 #[unsafe(no_mangle)]
 pub extern "C" fn fcheck_check(
     text: &[u8],

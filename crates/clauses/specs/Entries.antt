@@ -1,6 +1,6 @@
 -- Nothing here is to be believed: `let_entry` (crates/text/proofs/Nesting) says what is found in a written list.
 -- R2, "variable N of A becomes term N of the first list": the bytes of the entries of a list.
-use Rattle.std.specs.Prelude.{ℕ, zero, suc, ◌-◌, List, [], ◌∷◌, Option, Some, None, length, take, replicate, map}
+use Rattle.std.specs.Prelude.{ℕ, zero, suc, ◌-◌, List, [], ◌∷◌, Option, Some, None, length, take, map}
 use Rattle.std.specs.Borrow.{Bor}
 use Rattle.text.specs.Read.{Parsed, bad, got, Reader, and_then, ◌>>◌, skip}
 use Rattle.text.specs.Access.{skip_item}
@@ -18,15 +18,15 @@ itself bs = and_then (skip_item bs) (λ _ rest. got (take (length bs - length re
 unfoldable pub next_entry : Reader (List ℕ)
 next_entry = skip " " >> itself
 
--- Of n entries the one that was read and those after it; empty ones where none was.
-unfoldable pub one_more : ℕ → (List ℕ → List (List ℕ)) → Parsed (List ℕ) → List (List ℕ)
-one_more n others bad = replicate n []
-one_more n others (got item rest) = item ∷ others rest
+-- The entry that was read and those after it; none where none was.
+unfoldable pub one_more : (List ℕ → List (List ℕ)) → Parsed (List ℕ) → List (List ℕ)
+one_more others bad = []
+one_more others (got item rest) = item ∷ others rest
 
--- The next n entries; past the last they are empty.
+-- The next n entries, or as many as there are.
 unfoldable pub items : ℕ → List ℕ → List (List ℕ)
 items zero bs = []
-items (suc n) bs = one_more (suc n) (items n) (next_entry bs)
+items (suc n) bs = one_more (items n) (next_entry bs)
 
 -- T6, T9, "a list, `(let TERM ...)`": its entries, of which there are at most 32.
 unfoldable pub entries : List ℕ → List (List ℕ)

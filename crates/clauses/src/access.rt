@@ -1,10 +1,11 @@
 // Passing an item, and finding an occurrence in it.
-ghost use Rattle.std.specs.Prelude.{◌+◌, ◌≤◌, ◌<◌, ◌≡◌, length, count_by, eqb};
+ghost use Rattle.std.specs.Prelude.{◌+◌, ◌<◌, ◌≡◌, length};
 ghost use Rattle.clauses.specs.Nearer.{Nearer};
 ghost use Rattle.clauses.specs.Entries.{itself, taken};
 ghost use Rattle.text.specs.Answers.{passed};
 ghost use Rattle.text.specs.Access.{skip_item, begins_term, to_occurrence};
 
+use scan::counts::count;
 use scan::words::word;
 
 // Bytes that are looked at together.
@@ -20,21 +21,6 @@ struct Inside<'a> {
     level: usize,
 }
 
-// How often the byte stands among those. A function for this and for `block_ends` of source would be open to others and ask them for a
-// short slice, and no open call asks anything of bytes.
-fn tally(bytes: &[u8; STRIDE], byte: u8) -> usize
-    ensures count { result ≡ count_by (eqb byte) bytes.now }
-    ensures at_most { result ≤ STRIDE }
-{
-    let mut n: u8 = 0;
-    for b in bytes {
-        if *b == byte {
-            n += 1;
-        }
-    }
-    n as usize
-}
-
 // A place at or before the end of the item, by steps of 16 bytes in which it cannot end.
 #[tactic(auto, using(crate::proofs::Leaping::leap_over))]
 fn leap(item: &[u8], level: usize) -> Inside<'_>
@@ -48,18 +34,18 @@ fn leap(item: &[u8], level: usize) -> Inside<'_>
         let Some((bytes, after)) = rest.split_first_chunk::<STRIDE>() else {
             break;
         };
-        let closed = tally(bytes, b')');
+        let closed = count(bytes, b')');
         if closed > inner {
             break;
         }
-        inner = inner + tally(bytes, b'(') - closed;
+        inner = inner + count(bytes, b'(') - closed;
         rest = after;
     }
     Inside { rest, level: inner }
 }
 
 // The bytes after the item that s begins with.
-#[tactic(auto, unfolding(text::specs::Access::skip_item, text::specs::Access::closing))]
+#[tactic(auto, unfolding(text::specs::Access::skip_item, text::specs::Access::closing), using(crate::proofs::Passing::strip_within))]
 pub fn skip(s: &[u8]) -> Option<&[u8]>
     ensures value { passed result ≡ skip_item s.now }
     ensures s_unchanged { s.exit.now ≡ s.entry.now }
@@ -83,7 +69,7 @@ pub fn skip(s: &[u8]) -> Option<&[u8]>
 }
 
 // The item that s begins with, and the bytes after it.
-#[tactic(auto, unfolding(crate::specs::Entries::itself))]
+#[tactic(auto, unfolding(crate::specs::Entries::itself), using(crate::proofs::Passing::skip_within))]
 pub fn split(s: &[u8]) -> Option<(&[u8], &[u8])>
     ensures value { taken result ≡ itself s.now }
     ensures s_unchanged { s.exit.now ≡ s.entry.now }
@@ -101,7 +87,7 @@ fn term(s: &[u8]) -> bool
 }
 
 // The bytes from term occurrence k of the item on that s begins with.
-#[tactic(auto, unfolding(text::specs::Access::to_occurrence, text::specs::Access::seek))]
+#[tactic(auto, unfolding(text::specs::Access::to_occurrence, text::specs::Access::seek), using(crate::proofs::Passing::strip_within))]
 pub fn occurrence(s: &[u8], k: usize) -> Option<&[u8]>
     ensures value { passed result ≡ to_occurrence k s.now }
     ensures s_unchanged { s.exit.now ≡ s.entry.now }

@@ -1,5 +1,5 @@
 // Items one after another.
-ghost use Rattle.std.specs.Prelude.{◌≡◌, [], length, replicate};
+ghost use Rattle.std.specs.Prelude.{◌≡◌};
 ghost use Rattle.clauses.specs.Entries.{entries, next_entry, taken, texts};
 ghost use Rattle.text.specs.Answers.{passed};
 ghost use Rattle.text.specs.Access.{pass_item, to_item, opening, to_argument};
@@ -20,7 +20,7 @@ pub fn pass(s: &[u8]) -> Option<&[u8]>
 }
 
 // The bytes from item n on, of items that stand after a space each.
-#[tactic(auto, unfolding(text::specs::Access::to_item))]
+#[tactic(auto, unfolding(text::specs::Access::to_item), using(crate::proofs::Passing::item_later))]
 pub fn item(s: &[u8], n: usize) -> Option<&[u8]>
     ensures value { passed result ≡ to_item n s.now }
     ensures s_unchanged { s.exit.now ≡ s.entry.now }
@@ -34,9 +34,8 @@ pub fn item(s: &[u8], n: usize) -> Option<&[u8]>
 
 // The same bytes, if they begin with an item.
 #[tactic(auto, unfolding(text::specs::Access::opening))]
-pub fn begins(s: &[u8]) -> Option<&[u8]>
-    ensures value { passed result ≡ opening s.now }
-    ensures s_unchanged { s.exit.now ≡ s.entry.now }
+pub(crate) fn begins(s: &[u8]) -> Option<&[u8]>
+    ensures { passed result ≡ opening s.now }
 {
     let (b, _) = s.split_first()?;
     (*b == b'(').then_some(s)
@@ -44,9 +43,8 @@ pub fn begins(s: &[u8]) -> Option<&[u8]>
 
 // The bytes from argument n on, of the bracket that s begins with.
 #[tactic(auto, unfolding(text::specs::Access::to_argument))]
-pub fn argument(s: &[u8], n: usize) -> Option<&[u8]>
-    ensures value { passed result ≡ to_argument n s.now }
-    ensures s_unchanged { s.exit.now ≡ s.entry.now }
+pub(crate) fn argument(s: &[u8], n: usize) -> Option<&[u8]>
+    ensures { passed result ≡ to_argument n s.now }
 {
     let first = word(s, b"(")?;
     match n.checked_sub(1) {
@@ -63,29 +61,19 @@ fn next_entry(s: &[u8]) -> Option<(&[u8], &[u8])>
     split(word(s, b" ")?)
 }
 
-// Makes them all empty.
-#[tactic(auto, using(crate::proofs::Listing::one_cleared))]
-fn clear(found: &mut [&[u8]])
-    ensures { texts found.new ≡ replicate (length found.old) [] }
-{
-    let none: &[u8] = &[];
-    for entry in found.iter_mut() {
-        *entry = none;
-    }
-}
-
-// Puts the entries of a list into `found`; past the last they are empty. Lent, and not handed back: an array of 512 bytes would be moved.
+// The entries of a list, put into `found`, which has room for all that a list may have.
 #[tactic(auto, unfolding(crate::specs::Entries::entries), using(crate::proofs::Listing::listing))]
-pub fn entries<'a>(list: &'a [u8], found: &mut [&'a [u8]; ENTRIES])
-    ensures value { texts found.new ≡ entries list.now }
+pub fn entries<'a, 'f>(list: &'a [u8], found: &'f mut [&'a [u8]; ENTRIES]) -> &'f [&'a [u8]]
+    ensures value { texts result.now ≡ entries list.now }
     ensures list_unchanged { list.exit.now ≡ list.entry.now }
 {
     let mut rest = word(list, b"(let").unwrap_or(&[]);
-    for n in 0..ENTRIES {
+    for (n, place) in found.iter_mut().enumerate() {
         let Some((entry, after)) = next_entry(rest) else {
-            return clear(&mut found[n..]);
+            return &found[..n];
         };
-        found[n] = entry;
+        *place = entry;
         rest = after;
     }
+    found
 }

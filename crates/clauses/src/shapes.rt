@@ -27,7 +27,7 @@ pub fn next(s: &[u8]) -> Option<&[u8]>
     word(skip(s)?, b" ")
 }
 
-// The atom of a positive literal.
+// The atom of a positive literal. This and `negative` are no plainer as one function of a sign: each is one call of `word`, with its head.
 #[tactic(auto, unfolding(crate::specs::Shapes::positive))]
 pub fn positive(literal: &[u8]) -> Option<&[u8]>
     ensures value { passed result ≡ positive literal.now }
@@ -54,7 +54,7 @@ pub fn atom(literal: &[u8]) -> Option<&[u8]>
     positive(literal).or_else(|| negative(literal))
 }
 
-// The two literals have one sign.
+// The two literals have one sign. They are told apart by nothing but order, as in `same_arrow`: a struct of two would say no more.
 #[tactic(auto, unfolding(crate::specs::Shapes::same_sign, text::specs::Access::stood))]
 pub fn same_sign(a: &[u8], b: &[u8]) -> bool
     ensures value { result ≡ same_sign a.now b.now }
@@ -123,7 +123,7 @@ fn object<'a>(literal: &'a [u8], head: &[u8], other: &[u8]) -> Option<&'a [u8]>
     word(atom, head).or_else(|| word(atom, other))
 }
 
-// The object of a positive sv or si.
+// The object of a positive sv or si. This and `signature` share `object`, and differ in the heads that they name.
 pub fn scalar(literal: &[u8]) -> Option<&[u8]>
     ensures value { passed result ≡ scalar literal.now }
     ensures literal_unchanged { literal.exit.now ≡ literal.entry.now }

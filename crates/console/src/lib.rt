@@ -32,8 +32,8 @@ pub struct ReadError {
     pub error: Error,
 }
 
-// Reads once, puts what was read at the start of out, and answers how many bytes that is. It goes by way of a chunk, for nothing is
-// promised of the bytes of a buffer that was lent to `read`.
+// Reads once, puts what was read at the start of out, and answers how many bytes that is, as std's `read` does. It goes by way of a chunk,
+// for nothing is promised of the bytes of a buffer that was lent to `read`.
 fn read_some<R: Read>(from: &mut R, out: &mut [u8]) -> io::Result<usize>
     ensures result_in_bounds { IfOk result (λ n. n ≤ length out.old) }
     ensures out_unchanged { IfOk result (λ n. drop n out.new ≡ drop n out.old) }
@@ -50,7 +50,8 @@ fn read_some<R: Read>(from: &mut R, out: &mut [u8]) -> io::Result<usize>
 
 // Reads into text until it is full, the input ends or a read fails, which leaves room, and answers how many bytes it put there. The bytes
 // behind those that were read are as they were. A buffer that has one byte more than a text may have is enough: where it is full the text
-// has too many, which a check sees by its length, and nothing more is read.
+// has too many, which a check sees by its length, and nothing more is read. There is no heap for a text of its own; and the number is
+// answered, as std's `read` does, for a slice handed back would keep the buffer lent, and the promises are on all of it.
 pub fn read_text<R: Read>(from: &mut R, text: &mut [u8]) -> Result<usize, ReadError>
     ensures prefix_len { IsPrefixLen (bytes_read result) text.new }
     ensures text_len_unchanged { length text.new ≡ length text.old }
@@ -132,6 +133,7 @@ pub struct Reason(pub Error);
 
 impl Display for Reason {
     fn fmt<W: fmt::Write>(&self, f: &mut fmt::Formatter<W>) -> fmt::Result {
+        // There is no heap for a String; what `write!` leaves of the buffer tells how much it wrote.
         let mut message = [0u8; MESSAGE];
         let mut room: &mut [u8] = &mut message;
         let _ = write!(room, "{}", self.0);
@@ -144,7 +146,8 @@ impl Display for Reason {
     }
 }
 
-// Says on standard error what went wrong, behind the program's name.
+// Says on standard error what went wrong, behind the program's name. It stays beside `complain_of`, for bytes are no Display: not all of
+// them are text, and what is not is printed as it is.
 pub fn complain<E: Write>(errors: &mut E, name: &[u8], what: &[u8]) {
     let _ = errors.write_all(name);
     let _ = errors.write_all(b": ");
@@ -152,7 +155,7 @@ pub fn complain<E: Write>(errors: &mut E, name: &[u8], what: &[u8]) {
     let _ = errors.write_all(b"\n");
 }
 
-// The same of what is no bytes but can be shown.
+// The same of what is no bytes but can be shown. Nothing can be promised of what a Display writes.
 pub fn complain_of<E: Write, D: Display + Drop>(errors: &mut E, name: &[u8], what: D) {
     let _ = errors.write_all(name);
     let _ = writeln!(errors, ": {what}");
@@ -187,15 +190,16 @@ impl Request {
     }
 
     // Prints what is asked for: the help, or the program's name and version.
-    pub fn tell<W: Write>(self, to: &mut W, name: &[u8], help: &[u8]) -> io::Result<()>
+    pub fn tell<W: Write>(self, to: &mut W, name: &[u8], help: &[u8]) -> Result<(), StreamError>
         ensures { OnOk result (Appends (W.contents to.old) (W.contents to.new) (told self name.now help.now)) }
     {
         match self {
-            Request::Help => to.write_all(help),
+            Request::Help => to.write_all(help)?,
             Request::Version => {
                 to.write_all(name)?;
-                to.write_all(b" 0.4\n")
+                to.write_all(b" 0.4\n")?;
             }
         }
+        Ok(())
     }
 }

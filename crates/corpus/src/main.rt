@@ -39,7 +39,8 @@ impl Display for Failure {
     }
 }
 
-// Reads as many bytes as there are, up to the end of the file or to a failure, which counts as the end.
+// Reads as many bytes as there are, up to the end of the file or to a failure, which counts as the end. The number is answered beside the
+// buffer, as by `read_text`.
 fn read_bytes<R: Read>(from: &mut R, bytes: &mut [u8]) -> usize
     ensures { IsPrefixLen result bytes.new }
 {
@@ -56,7 +57,8 @@ fn read_length<R: Read>(from: &mut R) -> Result<Option<usize>, Failure> {
     }
 }
 
-// Reads a text's length and then the text, and answers how many bytes it has, if there is one.
+// Reads a text's length and then the text, and answers how many bytes it has, if there is one; the buffer is lent, as to `read_text`, for
+// there is no heap.
 fn read_next<R: Read>(from: &mut R, text: &mut [u8]) -> Result<Option<usize>, Failure>
     ensures { IfOk result (λ next. IfSome next (λ n. IsPrefixLen n text.new)) }
 {

@@ -41,11 +41,7 @@ impl Held {
 fn parent(is_used: bool, n: usize) -> Option<u16>
     ensures { result ≡ parent_if is_used n }
 {
-    if is_used && n < LINES {
-        Some(n as u16)
-    } else {
-        None
-    }
+    u16::try_from(n).ok().filter(|_| is_used && n < LINES)
 }
 
 // The parents that a step by the rule uses.
@@ -95,6 +91,7 @@ pub fn rests(held: &[Held; LINES], inputs: usize, first: usize) -> [bool; LINES]
         return marks;
     }
     marks[first] = true;
+    // The number is that of a clause, which `pass` asks for: an iterator over `held` would have to count it beside.
     for n in (inputs..=first).rev() {
         pass(&mut marks, n, held[n].parents);
     }

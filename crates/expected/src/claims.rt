@@ -1,5 +1,6 @@
 // Check 11: what is expected in the claim. Each call takes what is left of the line and answers what is left after what it expects.
-// Terms nest at most `depth` deep.
+// Terms nest at most `depth` deep: one number for a text, which is handed on. A struct of it and of what is left would be taken apart and
+// made anew by each call, and each would have to promise besides that the depth stays.
 ghost use Rattle.std.specs.Prelude.{◌≡◌};
 ghost use Rattle.text.specs.Answers.{passed};
 ghost use Rattle.clauses.specs.Shapes.{literals};
@@ -65,6 +66,7 @@ pub fn others<'r>(depth: u8, of: Kept<'_>, rest: &'r [u8]) -> Option<&'r [u8]>
 {
     let mut literals = begin(of.clause.item).unwrap_or(&[]);
     let mut left = rest;
+    // Literals are told by their numbers, and no iterator gives them: where one ends is known when it was read.
     for n in 0..of.literals {
         if n != of.dropped {
             (literals, left) = first_kept(depth, of.clause.beside(literals), left)?;

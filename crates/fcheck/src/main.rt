@@ -59,15 +59,10 @@ fn check_input(rt: &HostRuntime) -> Result<(), Failure> {
     Ok(())
 }
 
-fn tell(rt: &HostRuntime, request: Request) -> Result<(), StreamError> {
-    request.tell(&mut rt.stdout(), NAME, HELP)?;
-    Ok(())
-}
-
 // Prints the help or the version, if the argument asks for one of them, and there are no others.
 fn answer(rt: &HostRuntime, argument: &[u8]) -> Result<(), Failure> {
     let request = Request::of(argument).ok_or(Failure::Usage)?;
-    Ok(tell(rt, request)?)
+    Ok(request.tell(&mut rt.stdout(), NAME, HELP)?)
 }
 
 // The first argument is the program's name.

@@ -15,14 +15,14 @@ use scan::words::word;
 pub fn item_depth(depth: u8) -> usize
     ensures { result ≡ item_depth depth }
 {
-    3 + depth as usize
+    3 + usize::from(depth)
 }
 
 // Those of a literal with a term in place of one of its own.
 pub fn hole_depth(depth: u8) -> usize
     ensures { result ≡ hole_depth depth }
 {
-    item_depth(depth) + depth as usize
+    item_depth(depth) + usize::from(depth)
 }
 
 // An item at the front of a clause's bytes, and the entries of the list that fills the clause; None where the clause has no variables.
@@ -44,7 +44,7 @@ impl<'a> Filled<'a> {
         }
     }
 
-    // The entries that its clause asks for: none where it has no variables.
+    // The entries that its clause asks for; none where it has no variables: each caller would turn an Option into that.
     pub fn listed(self) -> &'a [&'a [u8]]
         ensures value { texts result.now ≡ listed (item_of self.entry).entries }
         ensures self_unchanged { item_of self.exit ≡ item_of self.entry }
@@ -89,7 +89,8 @@ impl<'a> Filling<'a> {
     }
 }
 
-// The bytes after this one, if the text begins with it; `word` would have to be given a slice of one byte.
+// The bytes after this one, if the text begins with it. It is no word that is known, but a byte of the item, and `word` would have to be
+// given a slice of it.
 #[tactic(auto, unfolding(text::specs::Read::strip))]
 pub fn past(text: &[u8], byte: u8) -> Option<&[u8]>
     ensures value { passed result ≡ strip (byte ∷ []) text.now }
@@ -106,10 +107,10 @@ pub fn index(s: &[u8]) -> Option<(usize, &[u8])>
     ensures s_unchanged { s.exit.now ≡ s.entry.now }
 {
     let (n, rest) = number(s)?;
-    Some((n, past(rest, b')')?))
+    Some((n, word(rest, b")")?))
 }
 
-// Entry n of a list; one past the last is empty, and stands for nothing: an Option would be turned into no bytes by each caller.
+// Entry n of a list; past the last no bytes, as the definitions have it (`by_entries`): with an Option and `?` more would be refused.
 pub fn entry<'e>(entries: &[&'e [u8]], n: usize) -> &'e [u8]
     ensures value { result.now ≡ get_or (texts entries.now) n [] }
     ensures entries_unchanged { entries.exit.now ≡ entries.entry.now }
@@ -130,7 +131,8 @@ fn expect_entry<'a, 'b>(
     Some((rest, word(text, entry(entries, n))?))
 }
 
-// Two insides byte by byte, nested items by `nested`, up to the closing bracket: what is left of both.
+// Two insides byte by byte, nested items by `nested`, up to the closing bracket: what is left of both. They come and go in their order, and
+// a struct of two would say no more.
 pub fn along<'a, 'b, F>(a: &'a [u8], b: &'b [u8], nested: F) -> Option<(&'a [u8], &'b [u8])>
 where
     F: for<'x, 'y> Fn(&'x [u8], &'y [u8]) -> Option<(&'x [u8], &'y [u8])>,
@@ -158,6 +160,7 @@ where
 }
 
 // The item at the front of a clause's bytes, filled, stands in the text: what is left of both. Brackets nest at most `depth` deep.
+#[tactic(auto, using(crate::proofs::Expecting::new_missing, crate::proofs::Expecting::hole_open, crate::proofs::Expecting::replaced, crate::proofs::Expecting::is_variable, crate::proofs::Expecting::no_bracket))]
 pub fn expect<'a, 'b>(
     filling: &Filling<'_>,
     item: &'a [u8],
@@ -176,8 +179,8 @@ pub fn expect<'a, 'b>(
     if let Some(variable) = word(item, b"(v ") {
         return expect_entry(filling.entries, variable, text);
     }
-    let inside = past(item, b'(')?;
-    let left = past(text, b'(')?;
+    let inside = word(item, b"(")?;
+    let left = word(text, b"(")?;
     along(
         inside,
         left,

@@ -41,7 +41,7 @@ impl<'a> From<StreamError> for Failure<'a> {
     }
 }
 
-// Reads the base, and answers how many bytes it has.
+// Reads the base, and answers how many bytes it has; the buffer is lent, as to `read_text`, for there is no heap.
 fn read_base(rt: &HostRuntime, path: &str, base: &mut [u8]) -> io::Result<usize>
     ensures { IfOk result (λ n. IsPrefixLen n base.new) }
 {
@@ -64,15 +64,10 @@ fn check_over<'a>(rt: &HostRuntime, path: &'a str) -> Result<(), Failure<'a>> {
     Ok(())
 }
 
-fn tell(rt: &HostRuntime, request: Request) -> Result<(), StreamError> {
-    request.tell(&mut rt.stdout(), NAME, HELP)?;
-    Ok(())
-}
-
 // The answer to the argument. A path is UTF-8.
 fn answer<'a>(rt: &HostRuntime, argument: &'a [u8]) -> Result<(), Failure<'a>> {
     match Request::of(argument) {
-        Some(request) => Ok(tell(rt, request)?),
+        Some(request) => Ok(request.tell(&mut rt.stdout(), NAME, HELP)?),
         None => check_over(
             rt,
             from_utf8(argument).map_err(|_| Failure::NameNotText(argument))?,

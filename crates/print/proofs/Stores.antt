@@ -11,10 +11,11 @@ use lib.Seq.{length-take-le}
 use Rattle.io.specs.Counts.{IsPrefixLen}
 use Rattle.logic.specs.declared.Check.{Check}
 use Rattle.logic.specs.Descent.{numbers_below}
+use Rattle.logic.specs.StepChecks.{check_number}
 use Rattle.text.specs.Words.{bytes, line_end}
 use Rattle.meaning.specs.declared.Verdict.{Verdict}
 use Rattle.meaning.specs.declared.Verdict.TheVariants.{Refuted, Open, Refused}
-use Rattle.meaning.specs.Means.{named}
+use Rattle.meaning.specs.Means.{named, verdict_word, numbers}
 use Rattle.writer.specs.Written.{numeral, Wrote}
 use Rattle.writer.proofs.Digits.{numeral_short}
 use Rattle.writer.proofs.Writing.{over_room, behind, back, wrote_both}
@@ -64,6 +65,19 @@ line_wrote word ns s t u = rw append_assoc at (wrote_both (wrote_both s t) u)
 pub line_short : (word ns : List ℕ) {k : ℕ} → length (spaced ns) ≤ k → length (word_line word ns) ≤ length word + (k + 1)
 unfolding word_line
 line_short word ns h = omega (arith, length-append word (spaced ns ++ line_end ∷ []), length-append (spaced ns) (line_end ∷ []))
+
+-- The line of each verdict.
+pub refuted_verdict : {v : Verdict} {count first : ℕ} → v ≡ Refuted count first → verdict_line v ≡ word_line (bytes "refuted") (count ∷ first ∷ [])
+unfolding verdict_line verdict_word numbers
+refuted_verdict e = rw e
+
+pub open_verdict : {v : Verdict} {count : ℕ} → v ≡ Open count → verdict_line v ≡ word_line (bytes "open") (count ∷ [])
+unfolding verdict_line verdict_word numbers
+open_verdict e = rw e
+
+pub refused_verdict : {v : Verdict} {check : Check} {line : ℕ} → v ≡ Refused check line → verdict_line v ≡ word_line (bytes "refused") (check_number check ∷ line ∷ [])
+unfolding verdict_line verdict_word numbers
+refused_verdict e = rw e
 
 -- A refuted text has a second line, and no other has one.
 pub second_line : {v : Verdict} {count first : ℕ} (ns : List ℕ) → v ≡ Refuted count first → written v ns ≡ verdict_line v ++ word_line (bytes "rests") ns

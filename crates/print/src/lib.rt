@@ -14,7 +14,9 @@ use writer::{put, put_number};
 // Bytes enough for the longest answer: a line of at most 64 bytes, and one of a word and 1,024 numbers of at most four digits.
 pub const ROOM: usize = 8192;
 
-// Puts a space and n at the start of out, and answers how many bytes were put.
+// Puts a space and n at the start of out, and answers how many bytes were put. A `write!` into a buffer promises nothing of the bytes that
+// stand there then; `put` does.
+#[tactic(auto, using(crate::proofs::Stores::spaced_one))]
 fn put_spaced(n: usize, out: &mut [u8]) -> usize
     ensures wrote { Wrote (spaced (n ∷ [])) out.old result out.new }
     ensures at_most { length (spaced (n ∷ [])) ≤ 21 }
@@ -36,6 +38,7 @@ fn put_numbers(numbers: &[usize], out: &mut [u8]) -> usize
 }
 
 // Puts a word, numbers and a line end at the start of out, and answers how many bytes were put.
+#[tactic(auto, using(crate::proofs::Stores::line_short))]
 fn put_line(word: &[u8], numbers: &[usize], out: &mut [u8]) -> usize
     ensures wrote { Wrote (word_line word.now numbers.now) out.old result out.new }
     ensures at_most { length (word_line word.now numbers.now) ≤ length word.now + (21 * length numbers.now + 1) }
@@ -46,6 +49,7 @@ fn put_line(word: &[u8], numbers: &[usize], out: &mut [u8]) -> usize
 }
 
 // Puts the verdict's line at the start of out, and answers how many bytes were put.
+#[tactic(auto, using(crate::proofs::Stores::refuted_verdict, crate::proofs::Stores::open_verdict, crate::proofs::Stores::refused_verdict))]
 fn put_verdict(v: Verdict, out: &mut [u8]) -> usize
     ensures wrote { Wrote (verdict_line v) out.old result out.new }
     ensures at_most { length (verdict_line v) ≤ 64 }
@@ -58,7 +62,8 @@ fn put_verdict(v: Verdict, out: &mut [u8]) -> usize
 }
 
 // Puts a space and a number for each mark at the start of out, and answers how many bytes were put. One loop for this and for `put_numbers`
-// would go over any iterator, and could only promise what that one gives.
+// would go over any iterator, and could promise to put what that gives; but each call would have to prove what its iterator gives, which is
+// more than a loop of its own.
 fn put_marked(marks: &[bool; LINES], out: &mut [u8]) -> usize
     ensures { Wrote (spaced (named marks.now)) out.old result out.new }
 {
@@ -81,7 +86,9 @@ fn put_rests(marks: &[bool; LINES], out: &mut [u8]) -> usize
     end + put(b"\n", &mut out[end..])
 }
 
-// Puts the lines of a verdict and of the marked numbers at the start of out, and answers how many bytes were put.
+// Puts the lines of a verdict and of the marked numbers at the start of out, and answers how many bytes were put. Marks and buffer are what
+// is written and where; a struct would be made for one call.
+#[tactic(auto, using(crate::proofs::Stores::open_line, crate::proofs::Stores::refused_line, crate::proofs::Stores::lines_short))]
 fn put_lines(v: Verdict, marks: &[bool; LINES], out: &mut [u8]) -> usize
     ensures wrote { Wrote (written v (named marks.now)) out.old result out.new }
     ensures at_most { length (written v (named marks.now)) ≤ 8192 }

@@ -13,7 +13,7 @@ use logic::{Arrow, Link, Sign};
 use scan::tables::one_of;
 use scan::words::word;
 
-// Whether the result may be the word none.
+// Whether the result may be the word none: a question about four of the arrows, and no comparison that a derive gives.
 #[tactic(auto, unfolding(logic::specs::Syntax::may_be_none))]
 pub fn may_be_none(arrow: Arrow) -> bool
     ensures { result ≡ may_be_none arrow }
@@ -40,7 +40,8 @@ impl<'t> Context<'t> {
         Some((all, s))
     }
 
-    // The result: a term, or the word none.
+    // The result: a term, or the word none. Here and below the bytes come with an arrow: what is read, and by what. A struct would be made
+    // for one call.
     #[tactic(auto, using(crate::proofs::Results::term_result))]
     fn result<'s>(self, s: &'s [u8], arrow: Arrow) -> Option<(Bounds, &'s [u8])>
         ensures { parsed result ≡ mapped (of_result (bounds self.entry.table.now)) (read_result self.entry.depth arrow s.now) }
@@ -117,6 +118,7 @@ impl<'t> Context<'t> {
         self.method(s, arrow)
     }
 
+    // An atom. It goes as `clause` and `list` do, a word and what stands behind it: two calls of other readers, with nothing to share.
     #[tactic(auto, unfolding(text::specs::Read::read_atom))]
     fn atom<'s>(self, s: &'s [u8]) -> Option<(Bounds, &'s [u8])>
         ensures { parsed result ≡ mapped (of_atom (bounds self.entry.table.now)) (read_atom self.entry.depth s.now) }
@@ -125,6 +127,7 @@ impl<'t> Context<'t> {
         self.shape(s)
     }
 
+    // A literal: its sign, and its atom.
     #[tactic(auto, unfolding(text::specs::Read::read_literal, text::specs::Read::read_sign, crate::specs::Summary::of_literal))]
     pub fn literal<'s>(self, s: &'s [u8]) -> Option<(Bounds, &'s [u8])>
         ensures { parsed result ≡ mapped (of_literal (bounds self.entry.table.now)) (read_literal self.entry.depth s.now) }

@@ -25,7 +25,7 @@ impl<'t> Context<'t> {
         self.literals(s)
     }
 
-    // A list of terms after the word let.
+    // A list of terms after the word let. It goes as `clause` does, with nothing to share.
     #[tactic(auto, unfolding(text::specs::Read::read_let))]
     pub fn list<'s>(self, s: &'s [u8]) -> Option<(Measure, &'s [u8])>
         ensures { parsed result ≡ mapped (terms_measure self.entry.table.now) (read_let self.entry.depth s.now) }

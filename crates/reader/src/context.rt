@@ -24,6 +24,8 @@ impl<'t> Context<'t> {
     pub fn declares(self, f: usize, n: usize) -> bool
         ensures { result ≡ declares self.entry.table.now f n }
     {
-        self.table.get(f).is_some_and(|taken| *taken as usize == n)
+        self.table
+            .get(f)
+            .is_some_and(|taken| usize::from(*taken) == n)
     }
 }

@@ -12,7 +12,8 @@ use scan::numbers::number;
 use scan::tables::one_of;
 use scan::words::word;
 
-// A clause or a list of a line: where it begins, and its measure. A place and not the bytes from there, for the state holds places.
+// A clause or a list of a line: where it begins, and its measure. A place and not the bytes from there: the state holds the claim's and an
+// input's place, and a second type for the lists alone would be this one with a lifetime, which every line would have to carry.
 #[derive(Clone, Copy, Debug, PartialEq, Eq)]
 pub struct ItemAt {
     pub start: usize,
@@ -37,7 +38,7 @@ pub enum LineAt {
     By(StepAt),
 }
 
-// The place in the line where its last bytes begin.
+// The place in the line where its last bytes begin: a difference of lengths, and no conversion.
 fn place(line: &[u8], rest: &[u8]) -> usize
     ensures { result ≡ place_of line.now rest.now }
 {
@@ -148,7 +149,7 @@ pub fn line(s: &[u8], table: &[u8], depth: u8) -> Option<LineAt>
 {
     let context = Context {
         table,
-        depth: depth as usize,
+        depth: usize::from(depth),
     };
     context.form(s)
 }

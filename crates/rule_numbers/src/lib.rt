@@ -7,8 +7,8 @@ ghost use Rattle.rule_numbers.specs.Uses.{rule_row, uses_of, parent_numbers, unu
 
 use logic::Rule;
 
-// The flags of A I B J K, in the order of the rule table.
-const USES: [[bool; 5]; 12] = [
+// The flags of A I B J K, in the order of the rule table. A reference, for an array would be made anew wherever it is looked up.
+const USES: &[[bool; 5]; 12] = &[
     [false, false, false, false, false],
     [true, true, true, true, false],
     [true, true, false, true, false],
@@ -30,7 +30,7 @@ pub fn row(rule: Rule) -> usize
     rule as usize
 }
 
-// Which of the numbers A I B J K a rule uses.
+// Which of the numbers A I B J K a rule uses: flags, as a row of the table has them, with no values beside them.
 #[derive(Clone, Copy, Debug, PartialEq, Eq)]
 pub struct Uses {
     pub a: bool,
@@ -59,7 +59,8 @@ fn zero_if_unused(used: bool, n: usize) -> bool
     used || n == 0
 }
 
-// The numbers A I B J K of a step.
+// The numbers A I B J K of a step. No one type with `Uses`: that is a row of the table, this is what a line says, and but for the one test
+// of a number by its flag nothing is done with both.
 #[derive(Clone, Copy, Debug, PartialEq, Eq)]
 pub struct Numbers {
     pub a: usize,

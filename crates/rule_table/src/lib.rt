@@ -7,13 +7,12 @@ ghost use Rattle.rule_table.specs.Rows.{row_of, term_at, at_found, found_of, fou
 ghost use Rattle.rule_table.specs.Rows.{resolved, factored, replaced, crossed, called, denying};
 ghost use Rattle.filling.specs.Items.{item_of};
 
-use agreement::agree::{agree, calls, covers};
+use agreement::agree::Pair;
 use clauses::access::occurrence;
 use clauses::shapes::{
     argument, atom, denied, link, negative, next, positive, same_arrow, same_sign, scalar,
     signature, value,
 };
-use filling::compare::Filled;
 use logic::{Link, Rule};
 use rule_numbers::row;
 
@@ -30,7 +29,7 @@ pub enum Target {
 }
 
 // What a rewriting rule asks: the term of the literal at I, and a link at J. Forward, the term agrees with the link's first term and the
-// second takes its place; otherwise the other way round.
+// second takes its place; otherwise the other way round: a flag, for a direction has no value beside it.
 #[derive(Clone, Copy, Debug, PartialEq, Eq)]
 pub struct Rewriting {
     pub target: Target,
@@ -50,7 +49,7 @@ pub enum Row {
     Elimination,
 }
 
-const ROWS: [Row; 12] = [
+const ROWS: &[Row; 12] = &[
     Row::Reflexivity,
     Row::Resolution,
     Row::Factoring,
@@ -122,7 +121,8 @@ pub enum Found<'a> {
         right: &'a [u8],
         other: &'a [u8],
     },
-    // sca: whether the arrows are the same, and object and result of the one atom, of the other.
+    // sca: whether the arrows are the same, and object and result of the one atom, of the other. A flag, since arrows that differ are a
+    // failed agreement (10) and no other shape (9): a variant of their own would ask for a new literal that no step reaches.
     Calling {
         same_arrow: bool,
         left: &'a [u8],
@@ -149,7 +149,8 @@ fn term(target: Target, k: usize, literal: &[u8]) -> Option<&[u8]>
     }
 }
 
-// res: - L at I, + L' at J.
+// res: - L at I, + L' at J. Here and below x and y are what stands from the literals at I and J on, told apart by their order alone: a
+// struct would say no more.
 #[tactic(auto, unfolding(crate::specs::Rows::resolved, crate::specs::Rows::behind))]
 fn resolution<'a>(x: &'a [u8], y: &'a [u8]) -> Option<Found<'a>>
     ensures { found_of result ≡ resolved x.now y.now }
@@ -254,31 +255,30 @@ pub fn find<'a>(row: Row, k: usize, x: Option<&'a [u8]>, y: Option<&'a [u8]>) ->
     }
 }
 
-// The third column: the agreement of what was found in the clauses a and b, filled, of terms that nest at most `depth` deep.
-#[tactic(auto, unfolding(crate::specs::Rows::agrees_by))]
-pub fn agrees<'a>(depth: u8, found: &Found<'a>, a: Filled<'a>, b: Filled<'a>) -> bool
-    ensures value { result ≡ agrees_by depth (item_of a.entry) (item_of b.entry) (at_found found.now) }
-    ensures found_unchanged { found.exit.now ≡ found.entry.now }
-    ensures a_unchanged { (item_of a.exit ≡ item_of a.entry) × (item_of b.exit ≡ item_of b.entry) }
-{
-    match *found {
-        Found::Nothing | Found::Denied => true,
-        Found::Covering { left, right } => covers(depth, a.beside(left), b.beside(right)),
-        Found::Rewriting { term, side, .. } => agree(depth, a.beside(term), b.beside(side)),
-        Found::Crossing {
-            left,
-            more,
-            right,
-            other,
-        } => {
-            agree(depth, a.beside(left), b.beside(right))
-                && agree(depth, a.beside(more), b.beside(other))
+impl<'a> Found<'a> {
+    // The third column: the agreement of what was found in the clauses of the pair, filled.
+    #[tactic(auto, unfolding(crate::specs::Rows::agrees_by))]
+    pub fn agrees(&self, pair: Pair<'a>) -> bool
+        ensures value { result ≡ agrees_by pair.entry.depth (item_of pair.entry.a) (item_of pair.entry.b) (at_found self.now) }
+        ensures self_unchanged { self.exit.now ≡ self.entry.now }
+        ensures pair_unchanged { (item_of pair.exit.a ≡ item_of pair.entry.a) × (item_of pair.exit.b ≡ item_of pair.entry.b) }
+    {
+        match *self {
+            Found::Nothing | Found::Denied => true,
+            Found::Covering { left, right } => pair.beside(left, right).covers(),
+            Found::Rewriting { term, side, .. } => pair.beside(term, side).agree(),
+            Found::Crossing {
+                left,
+                more,
+                right,
+                other,
+            } => pair.beside(left, right).agree() && pair.beside(more, other).agree(),
+            Found::Calling {
+                same_arrow,
+                left,
+                right,
+                ..
+            } => same_arrow && pair.beside(left, right).calls(),
         }
-        Found::Calling {
-            same_arrow,
-            left,
-            right,
-            ..
-        } => same_arrow && calls(depth, a.beside(left), b.beside(right)),
     }
 }

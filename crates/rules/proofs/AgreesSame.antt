@@ -1,6 +1,6 @@
 -- Agreement by places and by bytes comes to the same.
 use Prim.Native.Nat.{ℕ, ◌+◌, ◌-◌}
-use mathlib.Core.Bool.{Bool, true, false, ◌&&◌}
+use mathlib.Core.Bool.{Bool, false, ◌&&◌, and-false}
 use mathlib.Core.List.{List}
 use mathlib.Core.Logic.{inl, inr}
 use mathlib.Core.Path.{◌≡◌, refl, ap, subst, ◌∙◌}
@@ -92,11 +92,7 @@ module _ (depth : ℕ) (p line starts q others : List ℕ) {es fs : Option (List
       let z : within p (strip_at p (bytes "none") (result_at p x)) ≡ false =
       within_past p (strip_at p (bytes "none") (result_at p x)) (lost_walk (then_walk p (result_walk p) (strip_walk p 110 _)) e) in
       rw z refl
-  bare_from {x} {y} bs cs (lands s) (lost f) = rw (within_past q y f) (none (within p (strip_at p (bytes "none") (result_at p x))))
-    where
-      none : (b : Bool) → (b && false) ≡ false
-      none true = refl
-      none false = refl
+  bare_from {x} {y} bs cs (lands s) (lost f) = rw (within_past q y f) (and-false (within p (strip_at p (bytes "none") (result_at p x))))
   bare_from {x} {y} bs cs (lands s) (lands t) = rw (within_here q y t.within) (and_later _ _ (within_lands p ((then_walk p (result_walk p) (strip_walk p 110 _)).from (lands s))) (calls_same s t))
 
   bare_same : {x y : ℕ} {bs cs : List ℕ} → Stands p x bs → Stands q y cs → bare_at depth p x line starts q y others ≡ is_bare depth (item bs es) (item cs fs)

@@ -1,6 +1,6 @@
 -- A list of the line by the places of its entries, and by the entries: what fills a clause is the same.
 use Prim.Native.Nat.{ℕ, zero, suc, ◌+◌, ◌-◌, ◌≤◌, ◌<◌}
-use mathlib.Core.Bool.{Bool, true, false, cond, ◌&&◌}
+use mathlib.Core.Bool.{cond, ◌&&◌, and-false}
 use mathlib.Core.List.{List, [], ◌∷◌, ◌++◌}
 use mathlib.Core.Logic.{◌⊎◌, inl, inr}
 use mathlib.Core.Path.{◌≡◌, refl, sym, ap, ◌∙◌}
@@ -31,11 +31,6 @@ pub data Lists (line starts : List ℕ) : Option (List (List ℕ)) → Type 0 wh
   unlisted : starts ≡ [] → Lists line starts None
   listing : {es : List (List ℕ)} → 0 < length starts → ((n : ℕ) → entry_of line starts n ≡ get_or es n []) → Lists line starts (Some es)
 
-get_none : (n k : ℕ) → get_or {A = List ℕ} (replicate n []) k [] ≡ []
-get_none zero k = refl
-get_none (suc n) zero = refl
-get_none (suc n) (suc k) = get_none n k
-
 -- No entry stands between places past the end.
 past_entry : (s : List ℕ) (m n : ℕ) → entry_of s (replicate m (length s + 1)) n ≡ []
 unfolding entry_of
@@ -48,11 +43,7 @@ past_entry s m n = go (get_or (replicate m (length s + 1)) n 0) (get_or (replica
 
     go : (from to : ℕ) → (to ≡ 0) ⊎ (to ≡ length s + 1) → cond (ltb from to && leb to (length s)) (take (to - (from + 1)) (drop (from + 1) s)) [] ≡ []
     go from to (inl z) = rw (z, le-ltb from 0 (omega arith))
-    go from to (inr z) = rw (z, lt-leb (length s + 1) (length s) (omega arith)) (none (ltb from (length s + 1)))
-      where
-        none : (b : Bool) → cond (b && false) (take (length s + 1 - (from + 1)) (drop (from + 1) s)) [] ≡ []
-        none true = refl
-        none false = refl
+    go from to (inr z) = rw (z, lt-leb (length s + 1) (length s) (omega arith), and-false (ltb from (length s + 1)))
 
 one_place : (s : List ℕ) (at n : ℕ) → entry_of s (at ∷ []) n ≡ []
 unfolding entry_of
@@ -88,11 +79,7 @@ first_entry s at to more h k = rw (lt-ltb at to (omega arith), le-leb to (length
 
 unended : (s : List ℕ) (at : ℕ) (more : List ℕ) → entry_of s (at ∷ ((length s + 1) ∷ more)) 0 ≡ []
 unfolding entry_of
-unended s at more = rw (lt-leb (length s + 1) (length s) (omega arith)) (none (ltb at (length s + 1)))
-  where
-    none : (b : Bool) → cond (b && false) (take (length s + 1 - (at + 1)) (drop (at + 1) s)) [] ≡ []
-    none true = refl
-    none false = refl
+unended s at more = rw (lt-leb (length s + 1) (length s) (omega arith), and-false (ltb at (length s + 1)))
 
 later_entry : (s : List ℕ) (at : ℕ) (more : List ℕ) (n : ℕ) → entry_of s (at ∷ more) (suc n) ≡ entry_of s more n
 unfolding entry_of
@@ -104,9 +91,9 @@ unfolding places items end_of one_more
 entries_from s zero at n = one_place s at n
 entries_from s (suc k) at n = go (entries_from s k) (next_view s at)
   where
-    stops : (n : ℕ) → entry_of s (at ∷ places s (suc k) (length s + 1)) n ≡ get_or {A = List ℕ} (replicate (suc k) []) n []
+    stops : (n : ℕ) → entry_of s (at ∷ places s (suc k) (length s + 1)) n ≡ []
     stops zero = ap (λ ps. entry_of s (at ∷ ps) zero) (places_past s (suc k)) ∙ unended s at (replicate k (length s + 1))
-    stops (suc n) = later_entry s at (places s (suc k) (length s + 1)) n ∙ (ap (λ ps. entry_of s ps n) (places_past s (suc k)) ∙ (past_entry s (suc k) n ∙ sym (get_none k n)))
+    stops (suc n) = later_entry s at (places s (suc k) (length s + 1)) n ∙ (ap (λ ps. entry_of s ps n) (places_past s (suc k)) ∙ past_entry s (suc k) n)
 
     goes_on : ((at n : ℕ) → entry_of s (places s (suc k) at) n ≡ get_or (items k (drop at s)) n []) → {rest : List ℕ} → at + 1 ≤ length s - length rest → drop (length s - length rest) s ≡ rest → (n : ℕ) →
         entry_of s (at ∷ places s (suc k) (length s - length rest)) n ≡ get_or (take (length s - length rest - (at + 1)) (drop (at + 1) s) ∷ items k rest) n []
@@ -114,7 +101,7 @@ entries_from s (suc k) at n = go (entries_from s k) (next_view s at)
     goes_on more {rest} h d (suc n) = later_entry s at (places s (suc k) (length s - length rest)) n ∙ (more (length s - length rest) n ∙ ap (λ bs. get_or (items k bs) n []) d)
 
     go : ((at n : ℕ) → entry_of s (places s (suc k) at) n ≡ get_or (items k (drop at s)) n []) → {q : Parsed (Unit {0})} {r : Parsed (List ℕ)} → Next s at q r →
-        entry_of s (at ∷ places s (suc k) (end_of s q)) n ≡ get_or (one_more (suc k) (items k) r) n []
+        entry_of s (at ∷ places s (suc k) (end_of s q)) n ≡ get_or (one_more (items k) r) n []
     go more no_next = stops n
     go more (a_next h w d) = goes_on more h d n
 
@@ -123,7 +110,7 @@ list_same : (line : List ℕ) (at n : ℕ) → entry_of line (list_at line at) n
 unfolding list_at strip_at entries items next_entry strip one_more after
 list_same line at n = go (land line at (strip_tail (bytes "(let")))
   where
-    no_items : (k : ℕ) → items k [] ≡ replicate k []
+    no_items : (k : ℕ) → items k [] ≡ []
     no_items zero = refl
     no_items (suc k) = refl
 
@@ -131,7 +118,7 @@ list_same line at n = go (land line at (strip_tail (bytes "(let")))
     go {x} (lands s) = entries_from line 32 x n ∙ ap (λ bs. get_or (items 32 bs) n []) s.bytes_there
     go {x} (lost e) =
         ap (λ y. entry_of line (places line 33 y) n) e
-        ∙ (ap (λ ps. entry_of line ps n) (places_past line 33) ∙ (past_entry line 33 n ∙ sym (ap (λ es. get_or es n []) (no_items 32) ∙ get_none 32 n)))
+        ∙ (ap (λ ps. entry_of line ps n) (places_past line 33) ∙ (past_entry line 33 n ∙ sym (ap (λ es. get_or es n []) (no_items 32))))
 
 pub lists_given : (line : List ℕ) (at width : ℕ) → Lists line (filling_places width (list_at line at)) (given width (entries (drop at line)))
 unfolding filling_places given list_at places

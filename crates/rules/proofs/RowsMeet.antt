@@ -1,6 +1,6 @@
 -- refl, acy and sca: what checks 9 to 11 say in bytes is what the rule table says.
 use Prim.Native.Nat.{ℕ, ◌+◌, ◌≤◌}
-use mathlib.Core.Bool.{Bool, true, false, ◌&&◌}
+use mathlib.Core.Bool.{Bool, true, false, ◌&&◌, and-false}
 use mathlib.Core.List.{List, [], ◌∷◌}
 use mathlib.Core.Logic.{◌⊎◌, inl, inr, ◌↔◌, ite}
 use mathlib.Core.Path.{◌≡◌, refl, sym, ap, ◌∙◌}
@@ -89,11 +89,7 @@ both_within p q {x} {y} h k = rw (within_here p x h, within_here q y k)
 
 pub one_past : (p q : List ℕ) (x y : ℕ) → (x ≡ length p + 1) ⊎ (y ≡ length q + 1) → (within p x && within q y) ≡ false
 one_past p q x y (inl e) = rw (within_past p x e)
-one_past p q x y (inr e) = rw (within_past q y e) (none (within p x))
-  where
-    none : (b : Bool) → (b && false) ≡ false
-    none true = refl
-    none false = refl
+one_past p q x y (inr e) = rw (within_past q y e) (and-false (within p x))
 
 pub past_shape : (p q : List ℕ) (x y : ℕ) (b : Bool) → (x ≡ length p + 1) ⊎ (y ≡ length q + 1) → answer (within p x && within q y) b ≡ Err Check.Shape
 unfolding answer

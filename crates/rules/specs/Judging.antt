@@ -3,6 +3,7 @@
 use Rattle.std.specs.Prelude.{ℕ, ◌≤◌, ◌<◌, ◌≡◌, Bool, cond, ◌&&◌, List, [], T, eqb, length, drop, get_or, Option, Some, None, Ok, Err}
 use Rattle.logic.specs.declared.Check.{Check}
 use Rattle.logic.specs.StepChecks.{Checked}
+use Rattle.logic.specs.declared.Rule.{Rule}
 use Rattle.logic.specs.Syntax.{Clause, Step, by}
 use Rattle.logic.specs.Terms.{count}
 use Rattle.logic.specs.Each.{width}
@@ -61,6 +62,17 @@ pub record ParentAt : Type 0 where
 
 abbrev pub parent_of : code.Parent → ParentAt
 parent_of p = record { clause = p.clause.now; literals = p.literals; width = p.width }
+
+abbrev pub parents_of : Option code.Parent → Option ParentAt
+parents_of None = None
+parents_of (Some p) = Some (parent_of p)
+
+-- R8, refl, "no parent; the first list has one term T": no literal, and a list of one term.
+abbrev pub first_of : Rule → ParentAt → ParentAt
+first_of rule a = cond (uses_of rule).a a (record { clause = a.clause; literals = 0; width = 1 })
+
+abbrev pub second_of : Rule → ParentAt → Option ParentAt
+second_of rule b = cond (uses_of rule).b (Some b) None
 
 abbrev pub premise : List ℕ → Option (List (List ℕ)) → ℕ → PremiseAt
 premise bs es literals = record { clause = clause_with bs es; literals = literals }

@@ -38,7 +38,8 @@ pub struct Conclusion<'a> {
 }
 
 impl<'a> Conclusion<'a> {
-    // The new literal, if any: what is left of the claim after it.
+    // The new literal, if any: what is left of the claim after it. Depth and what is left go side by side, as in `expected` and for its
+    // reason.
     #[tactic(auto, unfolding(crate::specs::Claim::new_by))]
     fn new_literal<'r>(&self, depth: u8, rest: &'r [u8]) -> Option<&'r [u8]>
         ensures { passed result ≡ new_by depth (item_of self.now.a.clause) (item_of self.now.b.clause) (at_found self.now.found) rest.now }

@@ -1,19 +1,20 @@
 // Checks 7 to 11 of a step.
 ghost use Rattle.std.specs.Prelude.{◌≡◌, drop};
 ghost use Rattle.text.specs.Answers.{passed};
-ghost use Rattle.clauses.specs.Entries.{entries as entries_in, texts};
-ghost use Rattle.filling.specs.Items.{item_of};
+ghost use Rattle.clauses.specs.Entries.{entries as entries_in};
 ghost use Rattle.rules.specs.Claim.{premise_of};
-ghost use Rattle.rules.specs.Judging.{lists_fit, given, clause_with, dropped_by, conclude_by, parent_of, under_lists, step_at, Judges};
+ghost use Rattle.rules.specs.Judging.{lists_fit, given, premise, dropped_by, conclude_by, under_lists, step_at, Judges};
+ghost use Rattle.rules.specs.Judging.{parent_of, parents_of, first_of, second_of};
 
 use crate::claims::{Conclusion, Premise};
+use agreement::agree::Pair;
 use clauses::items::{ENTRIES, entries};
 use clauses::shapes::{literal, positive};
 use filling::compare::Filled;
 use logic::Check;
 use reader::forms::StepAt;
 use rule_numbers::Uses;
-use rule_table::{agrees, find, table_row};
+use rule_table::{find, table_row};
 use source::clause_part;
 
 // A parent of a step: the part of the text that begins with its clause, its number of literals, and its highest variable plus 1.
@@ -24,24 +25,27 @@ pub struct Parent<'a> {
     pub width: usize,
 }
 
-// Puts the entries of a list into `found`, if the list fills a clause with variables; they are not looked for otherwise.
-#[tactic(auto, unfolding(crate::specs::Judging::given))]
-fn list_for<'a>(width: usize, list: &'a [u8], found: &mut [&'a [u8]; ENTRIES])
-    ensures { given width (texts found.new) ≡ given width (entries_in list.now) }
-{
-    if width > 0 {
-        entries(list, found);
-    }
-}
-
-// A clause of this width with the entries that fill it: none where it has no variables.
-#[tactic(auto, unfolding(crate::specs::Judging::given))]
-fn filled<'a>(item: &'a [u8], width: usize, entries: &'a [&'a [u8]; ENTRIES]) -> Filled<'a>
-    ensures { item_of result ≡ clause_with item.now (given width (texts entries.now)) }
-{
-    Filled {
-        item,
-        entries: (width > 0).then_some(entries),
+impl<'a> Parent<'a> {
+    // Filled by the entries of a list, for which there is room in `found`; they are not looked for where there are no variables. Written
+    // out: `then` is not handed a call whose result has a lifetime that its arguments have not.
+    #[tactic(auto, unfolding(crate::specs::Judging::given))]
+    fn filled<'f>(self, list: &'a [u8], found: &'f mut [&'a [u8]; ENTRIES]) -> Premise<'f>
+    where
+        'a: 'f,
+        ensures { premise_of result ≡ premise self.entry.clause.now (given self.entry.width (entries_in list.now)) self.entry.literals }
+    {
+        let entries = if self.width == 0 {
+            None
+        } else {
+            Some(entries(list, found))
+        };
+        Premise {
+            clause: Filled {
+                item: self.clause,
+                entries,
+            },
+            literals: self.literals,
+        }
     }
 }
 
@@ -62,7 +66,8 @@ fn dropped(uses_b: bool, x: Option<&[u8]>, i: usize, j: usize) -> usize
     }
 }
 
-// A step that was read: its parents, and the line that it is. Where B is unused, A stands for it.
+// A step that was read: what stands at its numbers A and B, and the line that it is. No Options: so whoever has both need not know which of
+// them the rule uses.
 #[derive(Clone, Copy, Debug, PartialEq, Eq)]
 pub struct Inference<'a> {
     pub a: Parent<'a>,
@@ -72,14 +77,34 @@ pub struct Inference<'a> {
 }
 
 impl<'a> Inference<'a> {
-    // The second part of check 8 (V18): "a list has the wrong length". Of refl alone, which uses no A, the first list has one term.
+    // A; where it is not used, which is in refl alone, with no literal and one term in its list (R8).
+    fn first(&self) -> Parent<'a>
+        ensures { parent_of result ≡ first_of self.now.step.now.rule (parent_of self.now.a) }
+    {
+        if Uses::of(self.step.rule).a {
+            return self.a;
+        }
+        Parent {
+            literals: 0,
+            width: 1,
+            ..self.a
+        }
+    }
+
+    // B, if it is used.
+    fn second(&self) -> Option<Parent<'a>>
+        ensures { parents_of result ≡ second_of self.now.step.now.rule (parent_of self.now.b) }
+    {
+        Uses::of(self.step.rule).b.then_some(self.b)
+    }
+
+    // The second part of check 8 (V18): "a list has the wrong length".
     #[tactic(auto, unfolding(crate::specs::Judging::lists_fit))]
     fn lists_fit(&self) -> bool
         ensures { result ≡ lists_fit self.now.step.now self.now.a.width self.now.b.width }
     {
-        let uses = Uses::of(self.step.rule);
-        self.step.first.measure.count == (if uses.a { self.a.width } else { 1 })
-            && self.step.second.measure.count == (if uses.b { self.b.width } else { 0 })
+        self.step.first.measure.count == self.first().width
+            && self.step.second.measure.count == self.second().map_or(0, |b| b.width)
     }
 
     // Checks 9 to 11, over the premises, an unused one without literals. The claim is the rest of the line from there on.
@@ -92,7 +117,12 @@ impl<'a> Inference<'a> {
         let x = literal(a.clause.item, numbers.i);
         let y = literal(b.clause.item, numbers.j);
         let found = find(table_row(step.rule), numbers.k, x, y).ok_or(Check::Shape)?;
-        Check::Agreement.passed_if(agrees(depth, &found, a.clause, b.clause))?;
+        let pair = Pair {
+            depth,
+            a: a.clause,
+            b: b.clause,
+        };
+        Check::Agreement.passed_if(found.agrees(pair))?;
         let i = dropped(Uses::of(step.rule).b, x, numbers.i, numbers.j);
         let conclusion = Conclusion {
             found,
@@ -108,32 +138,17 @@ impl<'a> Inference<'a> {
     fn under_lists(&self, depth: u8) -> Result<(), Check>
         ensures { result ≡ under_lists depth (parent_of self.now.a) (parent_of self.now.b) self.now.line.now self.now.step.now }
     {
-        let (a, b) = (self.a, self.b);
-        let uses = Uses::of(self.step.rule);
-        let width = if uses.a { a.width } else { 1 };
         let mut firsts: [&[u8]; ENTRIES] = [&[]; ENTRIES];
         let first_list = clause_part(self.line, self.step.first.start);
-        list_for(width, first_list, &mut firsts);
-        let first = Premise {
-            clause: filled(a.clause, width, &firsts),
-            literals: if uses.a { a.literals } else { 0 },
+        let a = self.first().filled(first_list, &mut firsts);
+        let Some(b) = self.second() else {
+            // A stands for a B that is not used, without its literals: fac names both its literals in A (R10).
+            let none = Premise { literals: 0, ..a };
+            return self.conclude(depth, a, none);
         };
-        if !uses.b {
-            // A stands for an unused B, without its literals: fac names both its literals in A.
-            let none = Premise {
-                literals: 0,
-                ..first
-            };
-            return self.conclude(depth, first, none);
-        }
         let mut seconds: [&[u8]; ENTRIES] = [&[]; ENTRIES];
         let second_list = clause_part(self.line, self.step.second.start);
-        list_for(b.width, second_list, &mut seconds);
-        let second = Premise {
-            clause: filled(b.clause, b.width, &seconds),
-            literals: b.literals,
-        };
-        self.conclude(depth, first, second)
+        self.conclude(depth, a, b.filled(second_list, &mut seconds))
     }
 
     // Checks 7 to 11; `own` is the step's own number. Terms of its parents nest at most `depth` deep.

@@ -1,2 +1,3 @@
-pub mod Tried
+pub mod Blocks
 pub mod Strips
+pub mod Tried

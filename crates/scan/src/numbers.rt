@@ -37,7 +37,7 @@ fn digits(s: &[u8], first: usize) -> Option<(usize, &[u8])>
         if !digit(*b) {
             break;
         }
-        let next = value * 10 + (*b - b'0') as usize;
+        let next = value * 10 + usize::from(*b - b'0');
         if !goes_on(value, next) {
             return None;
         }
@@ -58,5 +58,5 @@ pub fn number(s: &[u8]) -> Option<(usize, &[u8])>
     if !digit(*b) {
         return None;
     }
-    digits(after, (*b - b'0') as usize)
+    digits(after, usize::from(*b - b'0'))
 }

@@ -3,7 +3,8 @@ ghost use Rattle.std.specs.Prelude.{◌≡◌};
 ghost use Rattle.text.specs.Read.{strip};
 ghost use Rattle.text.specs.Answers.{passed};
 
-// The bytes after the word w, if s begins with it.
+// The bytes after the word w, if s begins with it. As all that is open, it says in its contract that what it is lent is the same after:
+// callers read that there (docs/DECISIONS.md).
 #[tactic(auto, using(crate::proofs::Strips::strips))]
 pub fn word<'a>(s: &'a [u8], w: &[u8]) -> Option<&'a [u8]>
     ensures value { passed result ≡ strip w.now s.now }

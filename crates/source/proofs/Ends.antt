@@ -1,36 +1,23 @@
--- Line ends are counted part by part, and the first of them ends the first line.
-use Rattle.std.proofs.Common.{ℕ, zero, suc, ◌+◌, ◌*◌, ◌<◌, ◌≡◌, refl, sym, ap, ◌∙◌, List, [], ◌∷◌, Bool, true, false, cond, length, get_or, take, drop, arith}
-use lib.Dec.{eqb}
-use Rattle.std.proofs.Math.Seq.{drop-drop}
-use Rattle.std.specs.Simd.{first_chunks}
+-- Line ends are counted, and the first of them ends the first line.
+use Rattle.std.proofs.Common.{ℕ, zero, suc, ◌+◌, ◌<◌, ◌≡◌, refl, sym, ap, ◌∙◌, List, [], ◌∷◌, Bool, true, false, cond, count_by, eqb, length, take, arith}
+use native.Mathlib.Decide.{ℕ_discrete}
+use borrow.Author.Tests.{eq-eqb, ne_eqb}
+use Rattle.std.proofs.lemmas.List.Sums.{sum_by-cons}
 use Rattle.std.specs.Prelude.{None, Some}
 use Rattle.memchr.specs.Find.{IsFirstByte, Nowhere, Passes, is_byte}
 use Rattle.text.proofs.Sizes.{bytes_ended, bytes_unended, count_empty, count_ended, count_unended, ends_most}
 use Rattle.text.specs.Words.{line_end}
 use Rattle.text.specs.Size.{line_length, first_line, line_end_count}
 
-counted_front : (t : Bool) (all some rest : ℕ) → all ≡ some + rest → cond t (suc all) all ≡ cond t (suc some) some + rest
-counted_front true all some rest e = omega arith
-counted_front false all some rest e = e
+one_more : (b n m : ℕ) → n ≡ m → Dec (b ≡ line_end) → cond (eqb line_end b) 1 0 + n ≡ cond (eqb b line_end) (suc m) m
+one_more b n m h (yes e) = rw (eq-eqb b line_end e, eq-eqb line_end b (sym e)) (omega (arith, h))
+one_more b n m h (no d) = rw (ne_eqb b line_end d, ne_eqb line_end b (λ e. d (sym e))) (omega (arith, h))
 
--- Bytes have the line ends of their first n and of the rest.
-ends_split : (n : ℕ) (bs : List ℕ) → line_end_count bs ≡ line_end_count (take n bs) + line_end_count (drop n bs)
+-- The line ends are the bytes that are one.
+pub ends_counted : (text : List ℕ) → count_by (eqb line_end) text ≡ line_end_count text
 unfolding line_end_count
-ends_split zero bs = omega arith
-ends_split (suc n) [] = refl
-ends_split (suc n) (b ∷ bs) = counted_front (eqb b line_end) _ _ _ (ends_split n bs)
-
-chunk_at : (n k i : ℕ) (xs d : List ℕ) → i < k → get_or {A = List ℕ} (first_chunks n k xs) i d ≡ take n (drop (i * n) xs)
-chunk_at n zero i xs d h = absurd (omega arith)
-chunk_at n (suc k) zero xs d h = let none : 0 ≡ 0 * n = omega arith in ap (λ (m : ℕ). take n (drop m xs)) none
-chunk_at n (suc k) (suc i) xs d h = chunk_at n k i (drop n xs) d (omega arith) ∙ ap (take n) (drop-drop (i * n) n xs ∙ ap (λ (m : ℕ). drop m xs) (omega arith))
-
--- The line ends from a block on are the block's and those from the next block on.
-pub ends_block : (n k i : ℕ) (xs d : List ℕ) → i < k → line_end_count (drop (i * n) xs) ≡ line_end_count (get_or {A = List ℕ} (first_chunks n k xs) i d) + line_end_count (drop ((i + 1) * n) xs)
-ends_block n k i xs d h =
-    let next : drop n (drop (i * n) xs) ≡ drop ((i + 1) * n) xs = drop-drop n (i * n) xs ∙ ap (λ (m : ℕ). drop m xs) (omega arith) in
-    let block = chunk_at n k i xs d h in
-    rw (block, ← next) (ends_split n (drop (i * n) xs))
+ends_counted [] = refl
+ends_counted (b ∷ bs) = sum_by-cons (λ x. cond (eqb line_end x) 1 0) b bs ∙ one_more b _ _ (ends_counted bs) (ℕ_discrete b line_end)
 
 not_true : (t : Bool) → (t ≡ true → ⊥) → t ≡ false
 not_true true h = absurd (h refl)

@@ -7,12 +7,10 @@ ghost use Rattle.text.specs.Split.{too_large};
 ghost use Rattle.source.specs.Texts.{part_of};
 
 use memchr::memchr;
+use scan::counts::count;
 use text::Figures;
 
 const LINE_END: u8 = b'\n';
-
-// Bytes whose line ends are counted together: their number fits in a byte.
-const BLOCK: usize = 128;
 
 // The bytes of the first line; none, which are no form, where the text ends before the line does: what is no line is refused as an empty
 // one is, so an Option would be turned into it.
@@ -27,32 +25,11 @@ pub fn first_line(text: &[u8]) -> &[u8]
     }
 }
 
-// How many line ends are in a block.
-#[tactic(auto, using(text::proofs::Sizes::ends_here, text::proofs::Sizes::ends_further, text::proofs::Sizes::ends_over))]
-fn block_ends(block: &[u8]) -> usize
-    requires { length block.now ≤ 128 }
-    ensures { result ≡ line_end_count block.now }
-{
-    let mut ends: u8 = 0;
-    for &byte in block {
-        if byte == LINE_END {
-            ends += 1;
-        }
-    }
-    usize::from(ends)
-}
-
-// How many line ends are in the text, by blocks: `filter` and `count` over all its bytes take 17 times as long.
-#[tactic(auto, using(crate::proofs::Ends::ends_block, text::proofs::Sizes::ends_most))]
+// How many line ends are in the text.
 fn line_ends(text: &[u8]) -> usize
     ensures { result ≡ line_end_count text.now }
 {
-    let (blocks, rest) = text.as_chunks::<BLOCK>();
-    let mut ends = 0;
-    for block in blocks {
-        ends += block_ends(block);
-    }
-    ends + block_ends(rest)
+    count(text, LINE_END)
 }
 
 // The number of lines: the line ends, and one more for bytes after the last of them.
@@ -76,7 +53,7 @@ pub fn too_large(text: &[u8], figures: Figures) -> bool
     text.len() > figures.bytes || lines(text) > figures.lines
 }
 
-// The part of the text from `start` on.
+// The part of the text from `start` on; none past the end, as `drop` has it: each caller would turn an Option into that.
 pub fn clause_part(text: &[u8], start: usize) -> &[u8]
     ensures value { result.now ≡ drop start text.now }
     ensures text_unchanged { text.exit.now ≡ text.entry.now }

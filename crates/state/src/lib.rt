@@ -10,7 +10,7 @@ ghost use Rattle.state.specs.Represents.{Begins, Sees, Adds};
 use logic::Check;
 use reader::forms::{ItemAt, LineAt, StepAt, line};
 use reader::measures::Bounds;
-use text::{BYTES, LINES};
+use text::LINES;
 
 // Symbols of a text.
 const SYMBOLS: usize = 256;
@@ -64,7 +64,7 @@ impl HeldState {
         }
     }
 
-    // The argument counts of the symbols that are declared.
+    // The argument counts of the symbols that are declared: all, where more are said to be than there is room for, which no state says.
     #[tactic(auto, unfolding(crate::specs::ReadLine::held_table))]
     pub fn declared(&self) -> &[u8]
         ensures value { result.now ≡ held_table self.now }
@@ -116,7 +116,7 @@ impl HeldState {
     }
 
     // The state with one symbol more; as it was, where there is no room. It is made anew with one exit: by `mut self`, by a `match` or by
-    // `..self` twice as many bytes are moved a line.
+    // `..self` a line moves twice as many bytes, and (g) of bench/ misses its goal.
     #[tactic(auto, unfolding(crate::specs::ReadLine::symbol_held))]
     pub fn with_symbol(self, count: u8) -> HeldState
         ensures { result ≡ symbol_held self count }
@@ -137,7 +137,8 @@ impl HeldState {
         }
     }
 
-    // The state with one clause more, which begins at `start`, and with so many in lines; as it was, where there is no room.
+    // The state with one clause more, which begins at `start`, and with so many in lines; as it was, where there is no room. Made anew with
+    // one exit, as in `with_symbol` and for the same reason.
     #[tactic(auto, unfolding(crate::specs::ReadLine::clause_held))]
     pub fn with_clause(self, start: u16, inputs: usize) -> HeldState
         ensures { result ≡ clause_held self start inputs }
@@ -181,18 +182,18 @@ fn step_passes(ready: bool, s: &StepAt) -> Result<(), Check>
     clause_passes(ready, most, f.bounds.join(g.bounds.join(c.bounds)))
 }
 
-// A place of the text, within the office's bytes.
+// A place of the text, within the office's bytes. The 0 is not met: a text of more bytes fails check 1, which comes first.
 #[tactic(auto, unfolding(crate::specs::ReadLine::placed))]
 fn place(start: usize, at: usize) -> u16
     ensures { result ≡ placed start at }
 {
-    match start.checked_add(at) {
-        Some(place) if place <= BYTES => place as u16,
-        _ => 0,
-    }
+    start
+        .checked_add(at)
+        .and_then(|place| u16::try_from(place).ok())
+        .unwrap_or(0)
 }
 
-// A number within 255.
+// A number within 255. The 0 is not met: a line that passes check 5 has none above 32.
 #[tactic(auto, unfolding(crate::specs::ReadLine::byte_of))]
 fn byte(n: usize) -> u8
     ensures { result ≡ byte_of n }
@@ -200,7 +201,7 @@ fn byte(n: usize) -> u8
     u8::try_from(n).unwrap_or(0)
 }
 
-// One in line more, if there is room.
+// One in line more, if there is room: a step of a count, and no conversion.
 #[tactic(auto, unfolding(crate::specs::ReadLine::counted))]
 fn counted(inputs: usize) -> usize
     ensures { result ≡ counted_in inputs }

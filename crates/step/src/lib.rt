@@ -26,7 +26,7 @@ pub struct Before<'a> {
 
 impl<'a> Before<'a> {
     // Clause n as a parent: the part of the text that begins with it, its number of literals and its width. What a number gives that no
-    // clause has is of no account: check 7 refuses it.
+    // clause has is of no account: check 7 refuses it where it is used, and elsewhere no answer depends on it.
     #[tactic(auto, unfolding(crate::specs::Step::parent_at))]
     fn parent(self, n: usize) -> Parent<'a>
         ensures { parent_of result ≡ parent_at (part_of self.entry.texts) self.entry.state.now self.entry.held.now n }

@@ -1,11 +1,11 @@
 -- The bytes of a kind, and where the test of a byte is the test of its kind. Where a byte is known, `kind_of` computes.
-use Prim.Native.Nat.{ℕ, ◌<◌, ◌≤◌}
+use Prim.Native.Nat.{ℕ, ◌≤◌}
 use mathlib.Core.Path.{◌≡◌, refl, sym, ◌∙◌, subst}
-use mathlib.Core.Bool.{Bool, true, false, true≢false, ◌||◌, and-false}
+use mathlib.Core.Bool.{Bool, true, false, true≢false, ◌||◌}
 use mathlib.Core.Logic.{◌↔◌}
 use native.Mathlib.Omega.{arith}
-use lib.Dec.{T, eqb, eqb→eq, leb, leb→le}
-use borrow.Author.Tests.{le-leb, lt-leb, eq-eqb, ne_eqb, eqb-false}
+use lib.Dec.{T, eqb, eqb→eq, leb→le}
+use borrow.Author.Tests.{le-leb, eq-eqb, ne_eqb}
 use Rattle.text.specs.Words.{line_end}
 use Rattle.text.specs.Kinds.{between, kind_of}
 use Rattle.text.specs.Read.{digit}
@@ -14,50 +14,9 @@ use Rattle.text.proofs.Tests.{T_and, on_test}
 within : (a z b : ℕ) → a ≤ b → b ≤ z → between a z b ≡ true
 within a z b l h = rw (le-leb a b l, le-leb b z h)
 
-below : (a z b : ℕ) → b < a → between a z b ≡ false
-below a z b h = rw (lt-leb a b h)
-
-above : (a z b : ℕ) → z < b → between a z b ≡ false
-above a z b h = rw (lt-leb b z h) (and-false (leb a b))
-
 pub digit_kind : {b : ℕ} → 48 ≤ b → b ≤ 57 → kind_of b ≡ 0
 unfolding kind_of
 digit_kind {b = b} l h = rw (within 48 57 b l h)
-
-pub letter_kind : {b : ℕ} → 97 ≤ b → b ≤ 122 → kind_of b ≡ 1
-unfolding kind_of
-letter_kind {b = b} l h = rw (above 48 57 b (omega arith), within 97 122 b l h)
-
-pub bracket_kind : {b : ℕ} → 40 ≤ b → b ≤ 41 → kind_of b ≡ 2
-unfolding kind_of
-bracket_kind {b = b} l h = rw (below 48 57 b (omega arith), below 97 122 b (omega arith), either (eqb b 40) refl)
-  where
-    either : (t : Bool) → eqb b 40 ≡ t → (t || eqb b 41) ≡ true
-    either true e = refl
-    either false e = eq-eqb b 41 (omega (arith, eqb-false b 40 e))
-
--- None of the single bytes that have a kind of their own.
-pub record NoneOf (b : ℕ) : Type 0 where
-  pub opening : b ≡ 40 → ⊥
-  pub closing : b ≡ 41 → ⊥
-  pub plus : b ≡ 43 → ⊥
-  pub minus : b ≡ 45 → ⊥
-  pub space : b ≡ 32 → ⊥
-  pub line_end_lem : b ≡ 10 → ⊥
-
-pub other_kind : {b : ℕ} → between 48 57 b ≡ false → between 97 122 b ≡ false → NoneOf b → kind_of b ≡ 6
-unfolding kind_of
-other_kind {b = b} d l n =
-    rw (
-      d,
-      l,
-      ne_eqb b 40 n.opening,
-      ne_eqb b 41 n.closing,
-      ne_eqb b 43 n.plus,
-      ne_eqb b 45 n.minus,
-      ne_eqb b 32 n.space,
-      ne_eqb b 10 n.line_end_lem,
-    )
 
 -- What the kinds digit, space and line end tell of a byte.
 record Told (b k : ℕ) : Type 0 where

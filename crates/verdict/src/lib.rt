@@ -24,19 +24,11 @@ use state::{Added, HeldState, adds};
 use step::{Before, parents};
 use text::{BYTES, DEPTH, Figures, LINES};
 
-// Where a reading stopped: the verdict, the state after the lines that passed, and how far they reach: the place of the line that failed. A
-// verdict, where `JobRead` has an answer: its marks are lent to the loop, and one type for both would have to be told which it holds.
+// What is read of a base and a job: what is answered, the verdict with the marks of the inputs or by itself, the state after the lines that
+// passed, and how far they reach: the place of the line that failed.
 #[derive(Drop)]
-struct Stop {
-    verdict: Verdict,
-    state: HeldState,
-    at: usize,
-}
-
-// What is read of a text, or of a base and a job: the answer, and what is held where the reading stopped.
-#[derive(Drop)]
-pub struct JobRead {
-    pub answer: Answer,
+pub struct JobRead<A> {
+    pub answer: A,
     pub state: HeldState,
     pub at: usize,
 }
@@ -98,9 +90,9 @@ fn hold(held: &mut [Held; LINES], n: usize, used: Parents, added: Added)
 // The lines of the base and then those of the job, one after the other, up to the first that fails. The state is handed on and comes back
 // after each line; beside it the loop holds of each clause the parents that it uses, its number of literals and its width. The inputs on
 // which a refutation rests are marked in rests, where nothing is marked before.
-fn read_on(texts: Texts<'_>, figures: Figures, rests: &mut [bool; LINES]) -> Stop
+fn read_on(texts: Texts<'_>, figures: Figures, rests: &mut [bool; LINES]) -> JobRead<Verdict>
     requires { (too_large figures texts.base.now ≡ false) × UpToOffice figures × (named rests.old ≡ []) }
-    ensures answers { Answers figures texts.entry.base.now texts.entry.job.now result.verdict (named rests.new) }
+    ensures answers { Answers figures texts.entry.base.now texts.entry.job.now result.answer (named rests.new) }
     ensures stops_at { StopsAt figures texts.entry.base.now texts.entry.job.now result.state result.at }
 {
     let whole = reach(texts.base.len(), texts.job.len());
@@ -127,25 +119,25 @@ fn read_on(texts: Texts<'_>, figures: Figures, rests: &mut [bool; LINES]) -> Sto
                 at += length;
                 lines += 1;
             }
-            Err(verdict) => return Stop { verdict, state, at },
+            Err(answer) => return JobRead { answer, state, at },
         }
     }
-    let verdict = finish(&state, &held, rests);
-    Stop { verdict, state, at }
+    let answer = finish(&state, &held, rests);
+    JobRead { answer, state, at }
 }
 
 // The verdict on a base and a job: check 1 of the base, and then the lines. The inputs on which a refutation rests are marked in rests,
 // where nothing is marked before.
-fn verdict_on(texts: Texts<'_>, figures: Figures, rests: &mut [bool; LINES]) -> Stop
+fn verdict_on(texts: Texts<'_>, figures: Figures, rests: &mut [bool; LINES]) -> JobRead<Verdict>
     requires { UpToOffice figures × (named rests.old ≡ []) }
-    ensures answers { Answers figures texts.entry.base.now texts.entry.job.now result.verdict (named rests.new) }
+    ensures answers { Answers figures texts.entry.base.now texts.entry.job.now result.answer (named rests.new) }
     ensures stops_at { StopsAt figures texts.entry.base.now texts.entry.job.now result.state result.at }
 {
     if !too_large(texts.base, figures) {
         return read_on(texts, figures, rests);
     }
-    Stop {
-        verdict: Verdict::Refused {
+    JobRead {
+        answer: Verdict::Refused {
             check: Check::Size,
             line: 0,
         },
@@ -154,9 +146,9 @@ fn verdict_on(texts: Texts<'_>, figures: Figures, rests: &mut [bool; LINES]) -> 
     }
 }
 
-// One reading of a base and a job: the answer, the state after the lines before the one that fails, and the place of that line; where no
-// line fails, the state after all of them, and the place where they end.
-pub fn read_job<'a>(base: &'a [u8], job: &'a [u8]) -> JobRead
+// One reading of a base and a job, which callers hand in this order, as C does: the answer, the state after the lines before the one that
+// fails, and the place of that line; where no line fails, the state after all of them, and the place where they end.
+pub fn read_job<'a>(base: &'a [u8], job: &'a [u8]) -> JobRead<Answer>
     ensures verdict_value { result.answer.verdict ≡ verdict office (jointly office base.now job.now) }
     ensures rests_value { named result.answer.rests ≡ rests office (jointly office base.now job.now) }
     ensures stops_at { StopsAt office base.now job.now result.state result.at }
@@ -168,11 +160,14 @@ pub fn read_job<'a>(base: &'a [u8], job: &'a [u8]) -> JobRead
         depth: DEPTH,
     };
     let mut rests = [false; LINES];
-    let Stop { verdict, state, at } = verdict_on(Texts { base, job }, figures, &mut rests);
+    let read = verdict_on(Texts { base, job }, figures, &mut rests);
     JobRead {
-        answer: Answer { verdict, rests },
-        state,
-        at,
+        answer: Answer {
+            verdict: read.answer,
+            rests,
+        },
+        state: read.state,
+        at: read.at,
     }
 }
 

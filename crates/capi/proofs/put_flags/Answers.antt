@@ -1,7 +1,6 @@
 use Rattle.std.proofs.Common.{refl, ◌≡◌, ◌∙◌, arith, length, append-nil}
 use Rattle.std.proofs.lemmas.List.{drop_all}
 use Rattle.meaning.specs.Means.{named}
-use Rattle.capi.specs.Numbered.{flags}
 use Rattle.capi.proofs.Flags.{no_flags, more_flags, mark_flag, all_flags}
 use Rattle.capi.proofs.put_flags.Goals as goal
 

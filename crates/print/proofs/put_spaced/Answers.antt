@@ -1,10 +1,6 @@
-use Rattle.std.proofs.Common.{arith}
 use Rattle.writer.proofs.Writing.{wrote_both}
 use Rattle.print.proofs.Stores.{spaced_one}
 use Rattle.print.proofs.put_spaced.Goals as goal
 
 pub returns-clause-wrote : goal.returns-clause-wrote
 returns-clause-wrote c = rw spaced_one (wrote_both c.put-at.ensures.wrote c.put_number.ensures.wrote)
-
-pub returns-clause-at_most : goal.returns-clause-at_most
-returns-clause-at_most c = rw spaced_one (omega (arith, c.put_number.ensures.at_most))

@@ -15,5 +15,5 @@ unmarked : named (replicate office.lines false) ≡ []
 unfolding named
 unmarked = numbers_none office.lines _ (none_marked office.lines)
 
-pub verdict_on-verdict-requires : goal.verdict_on-verdict-requires
-verdict_on-verdict-requires c = (record { bytes = omega arith; lines = omega arith; depth = omega arith }, unmarked)
+pub verdict_on-read-requires : goal.verdict_on-read-requires
+verdict_on-read-requires c = (record { bytes = omega arith; lines = omega arith; depth = omega arith }, unmarked)

@@ -45,25 +45,16 @@ loop-at-preserved c =
     ] in
     came_as (r.onward (rw e.value at e.adds)) (cc (s, e.value)) (cc (e.value, c.hold.ensures, c.parents.ensures.value))
 
-pub returns-in-Err-clause-answers : goal.returns-in-Err-clause-answers
-returns-in-Err-clause-answers c =
+pub returns-in-Err : goal.returns-in-Err
+returns-in-Err c =
     let p = c.requires in
-    (next_refused _ _ _ p.1 p.0 c.loop-at.invariant (omega (arith, c.reach-whole.ensures, c.loop-at-test.true)) c.in-Err.ensures.first_failing c.in-Err.ensures.value p.2).0
-
-pub returns-in-Err-clause-stops_at : goal.returns-in-Err-clause-stops_at
-returns-in-Err-clause-stops_at c =
-    let p = c.requires in
-    (next_refused _ _ _ p.1 p.0 c.loop-at.invariant (omega (arith, c.reach-whole.ensures, c.loop-at-test.true)) c.in-Err.ensures.first_failing c.in-Err.ensures.value p.2).1
+    let r = next_refused _ _ _ p.1 p.0 c.loop-at.invariant (omega (arith, c.reach-whole.ensures, c.loop-at-test.true)) c.in-Err.ensures.first_failing c.in-Err.ensures.value p.2 in
+    record { answers = r.0; stops_at = r.1 }
 
 -- All lines are read.
-pub returns-clause-answers : goal.returns-clause-answers
-returns-clause-answers c =
+pub returns : goal.returns
+returns c =
     let p = c.requires in
-    let w = c.finish-verdict.ensures in
-    (came_end _ _ _ p.1 p.0 c.loop-at.invariant (omega (arith, c.reach-whole.ensures, c.loop-at-test.false)) _ w.value w.rests_after p.2).0
-
-pub returns-clause-stops_at : goal.returns-clause-stops_at
-returns-clause-stops_at c =
-    let p = c.requires in
-    let w = c.finish-verdict.ensures in
-    (came_end _ _ _ p.1 p.0 c.loop-at.invariant (omega (arith, c.reach-whole.ensures, c.loop-at-test.false)) _ w.value w.rests_after p.2).1
+    let w = c.finish-answer.ensures in
+    let r = came_end _ _ _ p.1 p.0 c.loop-at.invariant (omega (arith, c.reach-whole.ensures, c.loop-at-test.false)) _ w.value w.rests_after p.2 in
+    record { answers = r.0; stops_at = r.1 }
