@@ -1,12 +1,13 @@
 //! The texts, by family.
 
+use std::ops::Range;
 use std::path::Path;
 
 use crate::stored;
 use second::generate::derive::{derive, Derivation, Style};
 use second::generate::model::{write_lines, Step, RULES};
 use second::generate::random::Random;
-use second::{MAX_BYTES, MAX_LINES};
+use second::{MAX_BYTES, MAX_LINES, MAX_PARTS};
 
 /// What a text is made for.
 #[derive(Clone, Copy, Debug, PartialEq, Eq)]
@@ -35,6 +36,9 @@ pub enum Family {
     FilledBoth,
     /// Refuted by the last line, through nearly all the steps before it.
     Refutation,
+    /// Accepted: molecules with as many parts as they may have, by the rules that
+    /// look into them.
+    Molecules,
 }
 
 impl Family {
@@ -109,6 +113,16 @@ pub fn all() -> Vec<Text> {
             filled_both(),
         ),
         Text::new("k  a refutation by all its steps", Refutation, chain()),
+        Text::new("m  by res, in reverse order", Molecules, resolved()),
+        Text::new("m  by res, met last", Molecules, resolved_last()),
+        Text::new(
+            "m  by res, met last, filled",
+            Molecules,
+            resolved_last_filled(),
+        ),
+        Text::new("m  by fac, in reverse order", Molecules, factored()),
+        Text::new("m  by mer, 8 and 8 parts", Molecules, merged()),
+        Text::new("m  by pro, each of 16 parts", Molecules, projected()),
     ]
 }
 
@@ -122,6 +136,7 @@ fn ordinary(bytes: usize) -> Derivation {
         generality: 30,
         extra_literals: 1,
         arguments: 2,
+        parts: 3,
         size: 14,
         steps: 4 * MAX_LINES,
         refute: false,
@@ -166,10 +181,19 @@ fn ordinary_late() -> Vec<u8> {
 const SYMBOLS: &str = "(sym 0)\n(sym 1)\n(sym 8)\n";
 
 /// Appends a line while the text has room for it.
-fn filled_with(mut text: String, line: &str) -> Vec<u8> {
-    let lines = MAX_LINES - text.lines().count();
-    let room = (MAX_BYTES - text.len()) / line.len();
-    text.push_str(&line.repeat(room.min(lines)));
+fn filled_with(text: String, line: &str) -> Vec<u8> {
+    filled_by(text, |_| line.to_string())
+}
+
+/// Appends line 0, line 1 and so on while the text has room for them.
+fn filled_by(mut text: String, line: impl Fn(usize) -> String) -> Vec<u8> {
+    for number in 0..MAX_LINES - text.lines().count() {
+        let line = line(number);
+        if text.len() + line.len() > MAX_BYTES {
+            break;
+        }
+        text.push_str(&line);
+    }
     text.into_bytes()
 }
 
@@ -302,6 +326,116 @@ pub fn chain() -> Vec<u8> {
     }
     text.push_str(&format!("(by res 3 0 {last} 0 0 (let) (let) (or))\n"));
     text.into_bytes()
+}
+
+// ----- molecules of as many parts as may be: symbols 0 to 15 take no term, 16 one -----
+
+/// What a list puts in for a variable of these texts.
+const ENTRY: &str = "(f 16 (f 16 (f 0)))";
+
+/// A part that differs from others by its method, which comes first.
+fn by_method(number: usize, leaf: &str) -> String {
+    format!("(mv (f {number}) ({leaf} (f 16 {leaf})) (f 1))")
+}
+
+/// A part that differs from others by its result, which comes last.
+fn by_result(number: usize, leaf: &str) -> String {
+    format!("(mv (f 1) ({leaf} (f 16 {leaf})) (f {number}))")
+}
+
+/// A molecule of these parts.
+fn molecule(object: &str, parts: impl Iterator<Item = String>) -> String {
+    let parts: String = parts.map(|part| format!(" {part}")).collect();
+    format!("(mol {object}{parts})")
+}
+
+/// The symbols, and inputs.
+fn inputs(clauses: &[String]) -> String {
+    let symbols = "(sym 0)\n".repeat(MAX_PARTS) + "(sym 1)\n";
+    let lines = clauses.iter().map(|clause| format!("(in {clause})\n"));
+    symbols + &lines.collect::<String>()
+}
+
+/// Steps of res by a clause that denies the first atom, perhaps with another
+/// literal, and the fact that is the second.
+fn resolving(list: &str, [first, second]: [String; 2], other: &str) -> Vec<u8> {
+    filled_with(
+        inputs(&[
+            format!("(or (- {first}){other})"),
+            format!("(or (+ {second}))"),
+        ]),
+        &format!("(by res 0 0 1 0 0 {list} (let) (or{other}))\n"),
+    )
+}
+
+/// res of two molecules, one with the other's parts in reverse order, filled: as
+/// in any order, a search from the first part on compares 136 pairs.
+fn resolved() -> Vec<u8> {
+    let parts = |leaf| (0..MAX_PARTS).map(move |number| by_method(number, leaf));
+    let first = molecule("(v 0)", parts("(v 0)").rev());
+    let second = molecule(ENTRY, parts(ENTRY));
+    resolving(&format!("(let {ENTRY})"), [first, second], "")
+}
+
+/// Two molecules: each part of the first is the second's last one, and differs
+/// from the others by its end. A search compares 256 pairs, each to its end.
+fn met_last(leaf: &str, filled: &str) -> [String; 2] {
+    let last = by_result(MAX_PARTS - 1, leaf);
+    let first = std::iter::repeat_n(last, MAX_PARTS);
+    let second = (0..MAX_PARTS).map(|number| by_result(number, filled));
+    [molecule(leaf, first), molecule(filled, second)]
+}
+
+/// res of them, without variables; another literal is left.
+fn resolved_last() -> Vec<u8> {
+    let other = " (+ (mem (f 0) (f 1)))";
+    resolving("(let)", met_last("(f 0)", "(f 0)"), other)
+}
+
+/// res of them, the first filled.
+fn resolved_last_filled() -> Vec<u8> {
+    resolving(&format!("(let {ENTRY})"), met_last("(v 0)", ENTRY), "")
+}
+
+/// fac of two molecules of one clause, one with the other's parts in reverse
+/// order, both filled.
+fn factored() -> Vec<u8> {
+    let parts = |leaf| (0..MAX_PARTS).map(move |number| by_result(number, leaf));
+    let first = molecule("(v 0)", parts("(v 0)"));
+    let second = molecule("(v 0)", parts("(v 0)").rev());
+    let claim = molecule(ENTRY, parts(ENTRY));
+    filled_with(
+        inputs(&[format!("(or (+ {first}) (+ {second}))")]),
+        &format!("(by fac 0 0 0 1 0 (let {ENTRY}) (let) (or (+ {claim})))\n"),
+    )
+}
+
+/// mer of two molecules with half as many parts each, the first filled.
+fn merged() -> Vec<u8> {
+    let (first, second) = (0..MAX_PARTS / 2, MAX_PARTS / 2..MAX_PARTS);
+    let of =
+        |leaf, numbers: Range<usize>| molecule(leaf, numbers.map(|number| by_method(number, leaf)));
+    filled_with(
+        inputs(&[
+            format!("(or (+ {}))", of("(v 0)", first)),
+            format!("(or (+ {}))", of(ENTRY, second)),
+        ]),
+        &format!(
+            "(by mer 0 0 1 0 0 (let {ENTRY}) (let) (or (+ {})))\n",
+            of(ENTRY, 0..MAX_PARTS)
+        ),
+    )
+}
+
+/// pro of each part of a molecule in turn, filled.
+fn projected() -> Vec<u8> {
+    let parts = (0..MAX_PARTS).map(|number| by_method(number, "(v 0)"));
+    let text = inputs(&[format!("(or (+ {}))", molecule("(v 0)", parts))]);
+    filled_by(text, |number| {
+        let place = number % MAX_PARTS;
+        let claim = by_method(place, ENTRY).replacen("(mv", &format!("(mv {ENTRY}"), 1);
+        format!("(by pro 0 0 0 0 {place} (let {ENTRY}) (let) (or (+ {claim})))\n")
+    })
 }
 
 /// The texts of the corpus that the gate runs.

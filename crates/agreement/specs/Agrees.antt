@@ -1,9 +1,13 @@
 -- Nothing here is to be believed: the laws in crates/rules/proofs say what it gives on written clauses. Terms nest at most `depth` deep.
 -- Agreement of filled items in bytes, and of what two arrow atoms have before their results.
-use Rattle.std.specs.Prelude.{◌≡◌, ℕ, Bool, false, true, ◌&&◌, ◌||◌, List, Option, Some, None, take}
+use Rattle.std.specs.Prelude.{◌≡◌, ℕ, Bool, false, true, cond, not, ◌&&◌, ◌||◌, List, [], ◌∷◌, Option, Some, None, take}
+use Rattle.std.proofs.Math.Logic.{ite}
+use Rattle.logic.specs.declared.Arrow.{Arrow}
+use Rattle.logic.specs.Equality.{arrow?}
 use Rattle.text.specs.Read.{Parsed, bad, got, ◌>>◌, strip, skip}
 use Rattle.text.specs.Access.{stood}
 use Rattle.clauses.specs.Shapes.{next, result_of}
+use Rattle.clauses.specs.Parts.{PartIn, molecule, object_of, parts}
 use Rattle.filling.specs.Filled.{same_item, matches, item_depth}
 use Rattle.filling.specs.Items.{Item, item_of, beside, by_entries, filled}
 use Rattle.agreement.specs.declared.agree.Pair.{Pair}
@@ -58,3 +62,44 @@ is_bare depth x y =
 -- R4, "X *covers* Y if they are equal, or if Y is X with none in place of a term result": the second atom covers the first.
 unfoldable pub is_covered : ℕ → Item → Item → Bool
 is_covered depth x y = agrees depth x y || is_bare depth x y
+
+-- R4, of parts: "if they are equal, or if Y is X with none in place of a term result": the second covers the first, by a test of items;
+-- from their results on, from their arguments on, from their methods on, and as a whole.
+unfoldable pub is_none : List ℕ → Bool
+is_none bs = stood (skip "none" bs)
+
+unfoldable pub result_covered : (Item → Item → Bool) → Item → Item → Bool
+result_covered test x y = is_none x.bytes || (not (is_none y.bytes) && test x y)
+
+unfoldable pub arguments_covered : (Item → Item → Bool) → Item → Item → Bool
+arguments_covered test x y = test x y && further (result_covered test) x y (next x.bytes) (next y.bytes)
+
+unfoldable pub method_covered : (Item → Item → Bool) → Item → Item → Bool
+method_covered test x y = test x y && further (arguments_covered test) x y (next x.bytes) (next y.bytes)
+
+unfoldable pub same_arrow : Arrow → Arrow → Bool
+same_arrow a b = ite (arrow? a b) true false
+
+unfoldable pub part_covered : (Item → Item → Bool) → Item → Item → PartIn → PartIn → Bool
+part_covered test x y p q = same_arrow p.arrow q.arrow && method_covered test (beside x p.method) (beside y q.method)
+
+-- R24, "each part of X is covered by some part of Y".
+unfoldable pub some_covers : (PartIn → Bool) → List PartIn → Bool
+some_covers covered [] = false
+some_covers covered (q ∷ qs) = covered q || some_covers covered qs
+
+unfoldable pub each_covered : (PartIn → PartIn → Bool) → List PartIn → List PartIn → Bool
+each_covered covered [] qs = true
+each_covered covered (p ∷ ps) qs = some_covers (covered p) qs && each_covered covered ps qs
+
+-- R24, "X *fits into* Y, both arrow atoms or molecules, if their objects are equal and each part of X is covered by some part of Y".
+unfoldable pub parts_fit : (Item → Item → Bool) → Item → Item → Bool
+parts_fit test x y =
+    further test x y (object_of x.bytes) (object_of y.bytes)
+    && each_covered (part_covered test x y) (parts x.bytes) (parts y.bytes)
+
+-- Where neither is a molecule the second covers the first.
+unfoldable pub is_fitting : ℕ → Item → Item → Bool
+is_fitting depth x y =
+    let fit = parts_fit (agrees depth) x y in
+    cond (stood (molecule x.bytes) || stood (molecule y.bytes)) fit (is_covered depth x y)

@@ -3,9 +3,12 @@ ghost use Rattle.std.specs.Prelude.{◌≡◌};
 ghost use Rattle.text.specs.Answers.{passed};
 ghost use Rattle.clauses.specs.Shapes.{next as next_of};
 ghost use Rattle.filling.specs.Items.{item_of, beside};
-ghost use Rattle.agreement.specs.Agrees.{Finds, agrees, parts_agree, calls_agree, has_none, is_bare, is_covered};
+ghost use Rattle.clauses.specs.Parts.{shown, all_shown};
+ghost use Rattle.agreement.specs.Agrees.{Finds, agrees, parts_agree, calls_agree, has_none, is_bare, is_covered, is_none};
+ghost use Rattle.agreement.specs.Agrees.{result_covered, arguments_covered, method_covered, part_covered, each_covered, parts_fit, is_fitting};
 
 use crate::same::Lists;
+use clauses::parts::{PARTS, Part, molecule, object, parts};
 use clauses::shapes::{next, result};
 use filling::compare::{Filled, item_depth, stands};
 use scan::words::word;
@@ -16,6 +19,14 @@ fn has_none(object: &[u8]) -> bool
     ensures { result ≡ has_none object.now }
 {
     result(object).is_some_and(|end| word(end, b"none").is_some())
+}
+
+// Whether the word none stands here.
+#[tactic(auto, unfolding(crate::specs::Agrees::is_none, text::specs::Access::stood))]
+fn none(s: &[u8]) -> bool
+    ensures { result ≡ is_none s.now }
+{
+    word(s, b"none").is_some()
 }
 
 // Two items, each of a clause that is filled. Terms nest at most `depth` deep.
@@ -105,10 +116,88 @@ impl<'a> Pair<'a> {
 
     // The second atom covers the first.
     #[tactic(auto, unfolding(crate::specs::Agrees::is_covered))]
-    pub fn covers(self) -> bool
-        ensures value { result ≡ is_covered self.entry.depth (item_of self.entry.a) (item_of self.entry.b) }
-        ensures self_unchanged { (item_of self.exit.a ≡ item_of self.entry.a) × (item_of self.exit.b ≡ item_of self.entry.b) }
+    fn covers(self) -> bool
+        ensures { result ≡ is_covered self.entry.depth (item_of self.entry.a) (item_of self.entry.b) }
     {
         self.agree() || self.bare()
+    }
+
+    // From the results on: the first is none, or both are terms and the same.
+    #[tactic(auto, unfolding(crate::specs::Agrees::result_covered, crate::specs::Agrees::is_none, text::specs::Access::stood))]
+    fn result_covered(self) -> bool
+        ensures { result ≡ result_covered (agrees self.entry.depth) (item_of self.entry.a) (item_of self.entry.b) }
+    {
+        none(self.a.item) || (!none(self.b.item) && self.agree())
+    }
+
+    // From the arguments on, and from the methods on: each is the next with one item more, as in `parts` and `calls`.
+    #[tactic(auto, unfolding(crate::specs::Agrees::arguments_covered))]
+    fn arguments_covered(self) -> bool
+        ensures { result ≡ arguments_covered (agrees self.entry.depth) (item_of self.entry.a) (item_of self.entry.b) }
+    {
+        self.agree() && self.next().is_some_and(Pair::result_covered)
+    }
+
+    #[tactic(auto, unfolding(crate::specs::Agrees::method_covered))]
+    fn method_covered(self) -> bool
+        ensures { result ≡ method_covered (agrees self.entry.depth) (item_of self.entry.a) (item_of self.entry.b) }
+    {
+        self.agree() && self.next().is_some_and(Pair::arguments_covered)
+    }
+
+    // The second part covers the first.
+    #[tactic(auto, unfolding(crate::specs::Agrees::part_covered, crate::specs::Agrees::same_arrow))]
+    fn part_covered(self, part: Part<'a>, other: Part<'a>) -> bool
+        ensures { result ≡ part_covered (agrees self.entry.depth) (item_of self.entry.a) (item_of self.entry.b) (shown part.entry) (shown other.entry) }
+    {
+        part.arrow == other.arrow && self.beside(part.method, other.method).method_covered()
+    }
+
+    // Each of the parts is covered by some of the others.
+    fn each_covered(self, parts: &[Part<'a>], others: &[Part<'a>]) -> bool
+        ensures { result ≡ each_covered (part_covered (agrees self.entry.depth) (item_of self.entry.a) (item_of self.entry.b)) (all_shown parts.entry.now) (all_shown others.entry.now) }
+    {
+        let mut covered = true;
+        'parts: for part in parts {
+            let mut n = 0;
+            loop {
+                let Some(other) = others.get(n) else {
+                    covered = false;
+                    break 'parts;
+                };
+                if self.part_covered(*part, *other) {
+                    break;
+                }
+                n += 1;
+            }
+        }
+        covered
+    }
+
+    // Atoms of which one is a molecule: the first fits into the second.
+    #[tactic(auto, unfolding(crate::specs::Agrees::parts_fit))]
+    fn parts_fit(self) -> bool
+        ensures { result ≡ parts_fit (agrees self.entry.depth) (item_of self.entry.a) (item_of self.entry.b) }
+    {
+        let mut first = [Part::NONE; PARTS];
+        let mut second = [Part::NONE; PARTS];
+        self.further(object(self.a.item), object(self.b.item))
+            .is_some_and(Pair::agree)
+            && self.each_covered(
+                parts(self.a.item, &mut first),
+                parts(self.b.item, &mut second),
+            )
+    }
+
+    // The first atom fits into the second. Where neither is a molecule, the second covers it.
+    #[tactic(auto, unfolding(crate::specs::Agrees::is_fitting, text::specs::Access::stood))]
+    pub fn fits(self) -> bool
+        ensures value { result ≡ is_fitting self.entry.depth (item_of self.entry.a) (item_of self.entry.b) }
+        ensures self_unchanged { (item_of self.exit.a ≡ item_of self.entry.a) × (item_of self.exit.b ≡ item_of self.entry.b) }
+    {
+        if molecule(self.a.item).is_some() || molecule(self.b.item).is_some() {
+            return self.parts_fit();
+        }
+        self.covers()
     }
 }

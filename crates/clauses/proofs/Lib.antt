@@ -3,3 +3,4 @@ pub mod Placing
 pub mod Leaping
 pub mod Passing
 pub mod Listing
+pub mod Molecules

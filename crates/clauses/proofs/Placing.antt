@@ -83,7 +83,7 @@ module _ (p : List ℕ) where
   pub head_stands : {at : ℕ} (x : Atom) (rest : List ℕ) → Stands p at (put_atom x rest) → Stands p (strip_at p (head (kind_number x)) at) (after_head x rest)
   head_stands x rest s = strip_stands (head (kind_number x)) s (head_of x rest)
 
-  pub head_past : {at : ℕ} (n : ℕ) (x : Atom) (rest : List ℕ) → n < 10 → (n ≡ kind_number x → ⊥) → Stands p at (put_atom x rest) → strip_at p (head n) at ≡ length p + 1
+  pub head_past : {at : ℕ} (n : ℕ) (x : Atom) (rest : List ℕ) → n < 11 → (n ≡ kind_number x → ⊥) → Stands p at (put_atom x rest) → strip_at p (head n) at ≡ length p + 1
   head_past n x rest h e s = strip_past (head n) s (head_other n x rest h e)
 
   -- A place that is one, and one that is not.
@@ -121,7 +121,7 @@ module _ (p : List ℕ) where
   abbrev pub inner : ℕ → ℕ → ℕ → ℕ
   inner n m at = or_place p (strip_at p (head n) at) (strip_at p (head m) at)
 
-  pub either_stands : {at : ℕ} (n m : ℕ) (x : Atom) (rest : List ℕ) → n < 10 → (n ≡ kind_number x) ⊎ (m ≡ kind_number x) → Stands p at (put_atom x rest) → Stands p (inner n m at) (after_head x rest)
+  pub either_stands : {at : ℕ} (n m : ℕ) (x : Atom) (rest : List ℕ) → n < 11 → (n ≡ kind_number x) ⊎ (m ≡ kind_number x) → Stands p at (put_atom x rest) → Stands p (inner n m at) (after_head x rest)
   either_stands {at} n m x rest h (inl e) s =
       let w = head_stands x rest s in
       rw (e, or_else_here (strip_at p (head m) at) w.within) w
@@ -134,7 +134,7 @@ module _ (p : List ℕ) where
       go (yes d) = rw (d, e, or_else_here (strip_at p (head (kind_number x)) at) w.within) w
       go (no d) = rw (e, or_else_past (strip_at p (head n) at) (strip_at p (head (kind_number x)) at) (head_past n x rest h d s)) w
 
-  pub either_past : {at : ℕ} (n m : ℕ) (x : Atom) (rest : List ℕ) → n < 10 → m < 10 → (n ≡ kind_number x → ⊥) → (m ≡ kind_number x → ⊥) → Stands p at (put_atom x rest) → inner n m at ≡ length p + 1
+  pub either_past : {at : ℕ} (n m : ℕ) (x : Atom) (rest : List ℕ) → n < 11 → m < 11 → (n ≡ kind_number x → ⊥) → (m ≡ kind_number x → ⊥) → Stands p at (put_atom x rest) → inner n m at ≡ length p + 1
   either_past {at} n m x rest hn hm en em s =
       or_else_past (strip_at p (head n) at) (strip_at p (head m) at) (head_past n x rest hn en s) ∙ head_past m x rest hm em s
 

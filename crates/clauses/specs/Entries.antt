@@ -18,19 +18,19 @@ itself bs = and_then (skip_item bs) (λ _ rest. got (take (length bs - length re
 unfoldable pub next_entry : Reader (List ℕ)
 next_entry = skip " " >> itself
 
--- The entry that was read and those after it; none where none was.
-unfoldable pub one_more : (List ℕ → List (List ℕ)) → Parsed (List ℕ) → List (List ℕ)
+-- What was read and what is read after it; none where nothing was.
+unfoldable pub one_more : {A : Type 0} → (List ℕ → List A) → Parsed A → List A
 one_more others bad = []
 one_more others (got item rest) = item ∷ others rest
 
--- The next n entries, or as many as there are.
-unfoldable pub items : ℕ → List ℕ → List (List ℕ)
-items zero bs = []
-items (suc n) bs = one_more (items n) (next_entry bs)
+-- What is read n times in a row, or as often as something is.
+unfoldable pub items : {A : Type 0} → Reader A → ℕ → List ℕ → List A
+items read zero bs = []
+items read (suc n) bs = one_more (items read n) (read bs)
 
 -- T6, T9, "a list, `(let TERM ...)`": its entries, of which there are at most 32.
 unfoldable pub entries : List ℕ → List (List ℕ)
-entries bs = items 32 (after (skip "(let" bs))
+entries bs = items next_entry 32 (after (skip "(let" bs))
 
 -- Texts that are lent, by their bytes.
 abbrev pub texts : List (Bor (List ℕ)) → List (List ℕ)

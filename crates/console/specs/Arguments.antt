@@ -12,4 +12,4 @@ request argument = cond (bytes_eq argument (bytes "--help")) (Some Help) (cond (
 -- The help, or the program's name and version.
 abbrev pub told : Request → List ℕ → List ℕ → List ℕ
 told Help name help = help
-told Version name help = name ++ bytes " 0.4\n"
+told Version name help = name ++ bytes " 0.5\n"

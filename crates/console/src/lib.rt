@@ -197,7 +197,7 @@ impl Request {
             Request::Help => to.write_all(help)?,
             Request::Version => {
                 to.write_all(name)?;
-                to.write_all(b" 0.4\n")?;
+                to.write_all(b" 0.5\n")?;
             }
         }
         Ok(())

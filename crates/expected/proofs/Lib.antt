@@ -1,1 +1,3 @@
+pub mod Molecules
 pub mod Others
+pub mod Parting

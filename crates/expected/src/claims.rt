@@ -5,10 +5,16 @@ ghost use Rattle.std.specs.Prelude.{◌≡◌};
 ghost use Rattle.text.specs.Answers.{passed};
 ghost use Rattle.clauses.specs.Shapes.{literals};
 ghost use Rattle.filling.specs.Items.{item_of, entries_of, compared};
+ghost use Rattle.clauses.specs.Parts.{shown, all_shown};
 ghost use Rattle.expected.specs.Claims.{claim_ends, item_claimed, linked, reflexive, equated, rewritten, kept, others};
+ghost use Rattle.expected.specs.Claims.{spaced, result_claimed, said_claimed, arrow_claimed, part_claimed, parts_claimed, object_claimed, merged, projected, went_on};
+ghost use Rattle.clauses.specs.Parts.{object_of};
 
 use clauses::items::pass;
+use clauses::parts::{PARTS, Part, object, parts};
+use clauses::shapes::next;
 use filling::compare::{Filled, Filling, Replaced, expect, hole_depth, item_depth, stands};
+use logic::Arrow;
 use scan::words::word;
 
 // The beginning of the claim.
@@ -140,4 +146,116 @@ pub fn rewritten<'r>(
     };
     let (_, left) = expect(&filling, literal.item, hole_depth(depth), word(rest, b" ")?)?;
     Some(left)
+}
+
+// The word of an arrow.
+#[tactic(auto, unfolding(crate::specs::Claims::arrow_claimed))]
+fn arrow_word(arrow: Arrow, rest: &[u8]) -> Option<&[u8]>
+    ensures { passed result ≡ arrow_claimed arrow rest.now }
+{
+    match arrow {
+        Arrow::Sv => word(rest, b"sv"),
+        Arrow::Si => word(rest, b"si"),
+        Arrow::Mv => word(rest, b"mv"),
+        Arrow::Mi => word(rest, b"mi"),
+        Arrow::St => word(rest, b"st"),
+        Arrow::Mt => word(rest, b"mt"),
+    }
+}
+
+// An item, filled, and a space: the item that stands after it in its clause, and what is left.
+#[tactic(auto, unfolding(crate::specs::Claims::spaced))]
+fn spaced<'a, 'r>(depth: u8, x: Filled<'a>, rest: &'r [u8]) -> Option<(Filled<'a>, &'r [u8])>
+    ensures { went_on result ≡ spaced (item_claimed depth) (item_of x.entry) rest.now }
+{
+    let left = filled(depth, x, rest)?;
+    let after = next(x.item)?;
+    Some((x.beside(after), word(left, b" ")?))
+}
+
+// A result, filled, or the word none.
+#[tactic(auto, unfolding(crate::specs::Claims::result_claimed, text::specs::Access::stood))]
+fn result<'r>(depth: u8, x: Filled<'_>, rest: &'r [u8]) -> Option<&'r [u8]>
+    ensures { passed result ≡ result_claimed (item_claimed depth) (item_of x.entry) rest.now }
+{
+    match word(x.item, b"none") {
+        Some(_) => word(rest, b"none"),
+        None => filled(depth, x, rest),
+    }
+}
+
+// M (T ...) R), a part from its method on, filled.
+#[tactic(auto, unfolding(crate::specs::Claims::said_claimed))]
+fn said<'r>(depth: u8, method: Filled<'_>, rest: &'r [u8]) -> Option<&'r [u8]>
+    ensures { passed result ≡ said_claimed (item_claimed depth) (item_of method.entry) rest.now }
+{
+    let (arguments, left) = spaced(depth, method, rest)?;
+    let (end, left) = spaced(depth, arguments, left)?;
+    word(result(depth, end, left)?, b")")
+}
+
+// A part of a molecule after a space, filled. The item is any of its clause.
+#[tactic(auto, unfolding(crate::specs::Claims::part_claimed))]
+fn part<'r>(depth: u8, of: Filled<'_>, part: Part<'_>, rest: &'r [u8]) -> Option<&'r [u8]>
+    ensures { passed result ≡ part_claimed (item_claimed depth) (item_of of.entry) (shown part.entry) rest.now }
+{
+    let left = arrow_word(part.arrow, word(rest, b" (")?)?;
+    said(depth, of.beside(part.method), word(left, b" ")?)
+}
+
+// The parts of a molecule, each after a space, filled. The item is any of their clause.
+fn all_parts<'r>(depth: u8, of: Filled<'_>, parts: &[Part<'_>], rest: &'r [u8]) -> Option<&'r [u8]>
+    ensures { passed result ≡ parts_claimed (item_claimed depth) (item_of of.entry) (all_shown parts.entry.now) rest.now }
+{
+    let mut left = rest;
+    for shown in parts {
+        left = part(depth, of, *shown, left)?;
+    }
+    Some(left)
+}
+
+// The object of an arrow atom or a molecule, filled.
+#[tactic(auto, unfolding(crate::specs::Claims::object_claimed))]
+fn said_object<'r>(depth: u8, atom: Filled<'_>, rest: &'r [u8]) -> Option<&'r [u8]>
+    ensures { passed result ≡ object_claimed (item_claimed depth) (item_of atom.entry) (object_of (item_of atom.entry).bytes) rest.now }
+{
+    filled(depth, atom.beside(object(atom.item)?), rest)
+}
+
+// + the molecule of the first atom's object, its parts, then the other's.
+#[tactic(auto, unfolding(crate::specs::Claims::merged))]
+pub fn merged<'r>(
+    depth: u8,
+    atom: Filled<'_>,
+    other: Filled<'_>,
+    rest: &'r [u8],
+) -> Option<&'r [u8]>
+    ensures value { passed result ≡ merged (item_claimed depth) (item_claimed depth) (item_of atom.entry) (item_of other.entry) rest.now }
+    ensures atom_unchanged { (item_of atom.exit ≡ item_of atom.entry) × (item_of other.exit ≡ item_of other.entry) }
+    ensures rest_unchanged { rest.exit.now ≡ rest.entry.now }
+{
+    let mut first = [Part::NONE; PARTS];
+    let mut second = [Part::NONE; PARTS];
+    let left = said_object(depth, atom, word(rest, b" (+ (mol ")?)?;
+    let left = all_parts(depth, atom, parts(atom.item, &mut first), left)?;
+    let left = all_parts(depth, other, parts(other.item, &mut second), left)?;
+    word(left, b"))")
+}
+
+// + the arrow atom of an object and a part of its molecule.
+#[tactic(auto, unfolding(crate::specs::Claims::projected))]
+pub fn projected<'r>(
+    depth: u8,
+    object: Filled<'_>,
+    part: Part<'_>,
+    rest: &'r [u8],
+) -> Option<&'r [u8]>
+    ensures value { passed result ≡ projected (item_claimed depth) (item_of object.entry) (shown part.entry) rest.now }
+    ensures object_unchanged { (item_of object.exit ≡ item_of object.entry) × (shown part.exit ≡ shown part.entry) }
+    ensures rest_unchanged { rest.exit.now ≡ rest.entry.now }
+{
+    let left = arrow_word(part.arrow, word(rest, b" (+ (")?)?;
+    let left = filled(depth, object, word(left, b" ")?)?;
+    let left = said(depth, object.beside(part.method), word(left, b" ")?)?;
+    word(left, b")")
 }

@@ -92,14 +92,14 @@ module _ (depth : ℕ) (p q line starts others : List ℕ) (σ τ : Substitution
         λ e. agree_to depth line starts others σ τ v w entry entry' (tree_term t) (tree_term u) r s i j (clean_term t) cu wt wu (tree_term_lem σ t ∙ ap tree_term e ∙ sym (tree_term_lem τ u)),
       )
 
-  pub arguments_agree : {x y : ℕ} (ts us : Terms) (r s : List ℕ) → Stands p x (put_arguments ts r) → Stands q y (put_arguments us s) → T (formed_terms (suc (suc depth)) ts) → T (formed_terms (suc (suc depth)) us) → terms_width ts ≤ v → terms_width us ≤ w →
+  pub arguments_agree : {x y : ℕ} (ts us : Terms) (r s : List ℕ) → Stands p x (put_arguments ts r) → Stands q y (put_arguments us s) → T (formed_terms (suc (suc (suc depth))) ts) → T (formed_terms (suc (suc (suc depth))) us) → terms_width ts ≤ v → terms_width us ≤ w →
       T (numbereds (fills σ ts)) → T (numbereds (fills τ us)) → T (agree_at depth p x line starts q y others) ↔ (fills σ ts ≡ fills τ us)
   arguments_agree {x} {y} t u r s a b ft fu ht hu nt nu =
       let i : Stands p x (put_tree (tree_arguments t) r) = rw put_arguments_lem at a in
       let j : Stands q y (put_tree (tree_arguments u) s) = rw put_arguments_lem at b in
       let cu = clean_arguments u in
-      let wt = within_arguments v (suc (suc depth)) t ft ht in
-      let wu = within_arguments w (suc (suc depth)) u fu hu in (
+      let wt = within_arguments v (suc (suc (suc depth))) t ft ht in
+      let wu = within_arguments w (suc (suc (suc depth))) u fu hu in (
         λ h. let k = agree_from depth line starts others σ τ v w entry entry' (tree_arguments t) (tree_arguments u) r s i j (clean_arguments t) cu wt wu h in
             (arguments_unique (fills σ t) (fills τ u) k.0 k.1 nt nu (rw (put_arguments_lem (fills σ t) _, put_arguments_lem (fills τ u) _, ← tree_arguments_lem σ t, ← tree_arguments_lem τ u) k.2)).0,
         λ e. agree_to depth line starts others σ τ v w entry entry' (tree_arguments t) (tree_arguments u) r s i j (clean_arguments t) cu wt wu (tree_arguments_lem σ t ∙ ap tree_arguments e ∙ sym (tree_arguments_lem τ u)),

@@ -7,9 +7,9 @@ use native.Mathlib.Omega.{arith}
 use lib.Dec.{T, eqb, T_not}
 use lib.ListN.{length, length-append}
 use borrow.Author.Tests.{ne_eqb}
-use Rattle.logic.specs.Syntax.{Term, var as variable, app, Terms, nil, cons, Result, value, none, Part, part, Atom, link, obj, arrows, Literal, lit}
+use Rattle.logic.specs.Syntax.{Term, var as variable, app, Terms, nil, cons, Result, value, none, Part, part, Parts, only, also, Atom, link, obj, arrows, Literal, lit}
 use Rattle.logic.specs.Each.{term_width}
-use Rattle.logic.specs.Fill.{Substitution, fill, fills, fill_result, fill_part, fill_atom, fill_literal}
+use Rattle.logic.specs.Fill.{Substitution, fill, fills, fill_result, fill_part, fill_parts, fill_atom, fill_literal}
 use Rattle.logic.proofs.Filling.{arrow_fill}
 use Rattle.text.specs.Words.{bytes}
 use Rattle.text.specs.Write.{put_term}
@@ -17,7 +17,7 @@ use Rattle.text.specs.Form.{formed_number, formed_term}
 use Rattle.text.specs.Read.{bad, got, Reader, and_then, one_of, strip, digit}
 use Rattle.text.proofs.Number.{number_complete}
 use Rattle.text.proofs.Plain.{number_plain, in_front, put_grows}
-use Rattle.text.proofs.Trees.{Tree, var, node, Trees, end, byte, bracket, put_tree, put_inside, opens, Clean, CleanIn, Within, WithinIn, number_bytes, texts, Below, tree_term, tree_terms, tree_arguments, tree_result, tree_part, tree_atom, tree_literal, put_term_lem, clean_term, within_term}
+use Rattle.text.proofs.Trees.{Tree, var, node, Trees, end, byte, bracket, put_tree, put_inside, opens, Clean, CleanIn, Within, WithinIn, number_bytes, texts, Below, tree_term, tree_terms, tree_arguments, tree_result, tree_part, tree_bracketed, tree_parts, tree_atom, tree_literal, put_term_lem, clean_term, within_term}
 use Rattle.text.proofs.Nesting.{inner_tests}
 use Rattle.filling.specs.Filled.{Filler, prefixed, inside_up_to, inside, read_index, indexed, fill_item}
 
@@ -141,11 +141,21 @@ module _ (σ : Substitution) where
   unfolding fill_trees tree_part fill_part
   tree_part_lem (part a m ts r) = rw (tree_term_lem m, tree_arguments_lem ts, tree_result_lem r)
 
+  pub tree_bracketed_lem : (p : Part) → fill_tree trees (tree_bracketed p) ≡ tree_bracketed (fill_part σ p)
+  unfolding fill_tree tree_bracketed
+  tree_bracketed_lem p = rw (fill_texts, tree_part_lem p, arrow_fill σ p)
+
+  pub tree_parts_lem : (ps : Parts) → fill_trees trees (tree_parts ps) ≡ tree_parts (fill_parts σ ps)
+  unfolding fill_trees tree_parts fill_parts
+  tree_parts_lem (only p) = rw (tree_bracketed_lem p)
+  tree_parts_lem (also p ps) = rw (tree_bracketed_lem p, tree_parts_lem ps)
+
   pub tree_atom_lem : (x : Atom) → fill_tree trees (tree_atom x) ≡ tree_atom (fill_atom σ x)
-  unfolding fill_tree tree_atom fill_atom
+  unfolding fill_tree tree_atom fill_atom fill_parts
   tree_atom_lem (link l t u) = rw (fill_texts, tree_term_lem t, tree_term_lem u)
   tree_atom_lem (obj t) = rw (fill_texts, tree_term_lem t)
-  tree_atom_lem (arrows o p) = rw (fill_texts, tree_term_lem o, tree_part_lem p, arrow_fill σ p)
+  tree_atom_lem (arrows o (only p)) = rw (fill_texts, tree_term_lem o, tree_part_lem p, arrow_fill σ p)
+  tree_atom_lem (arrows o (also p ps)) = rw (fill_texts, tree_term_lem o, tree_parts_lem (also p ps))
 
   pub tree_literal_lem : (l : Literal) → fill_tree trees (tree_literal l) ≡ tree_literal (fill_literal σ l)
   unfolding fill_tree tree_literal fill_literal

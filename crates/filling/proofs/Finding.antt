@@ -4,21 +4,21 @@ use mathlib.Core.Bool.{false}
 use mathlib.Core.Path.{◌≡◌, refl, sym, ◌∙◌, ap, ap₂}
 use mathlib.Core.List.{List, [], ◌∷◌}
 use native.Mathlib.Omega.{arith}
-use Rattle.logic.proofs.Filling.{count_fill}
+use Rattle.logic.proofs.Filling.{count_fill, part_terms_lem, part_frame, part_own, parts_terms_lem, parts_frame, parts_own}
 use Rattle.logic.specs.declared.Sign.{Sign}
 use Rattle.logic.specs.declared.Sign.TheVariants.{Positive, Negative}
 use Rattle.logic.specs.declared.Link.{Link}
 use Rattle.logic.specs.declared.Link.TheVariants.{Eq, Mem, Sub}
 use Rattle.logic.specs.declared.Arrow.{Arrow}
 use Rattle.logic.specs.declared.Arrow.TheVariants.{Sv, Si, Mv, Mi, St, Mt}
-use Rattle.logic.specs.Syntax.{Term, var as variable, app, Terms, nil, cons, Result, value, none, Part, part, arrow_of, Atom, link, obj, arrows, lit}
-use Rattle.logic.specs.Terms.{count, join, part_terms, terms_of, result_terms, entry_or, nth, front, rest, with_result, with_part_terms, with_terms}
-use Rattle.logic.specs.Fill.{Substitution, fill, fills, fill_result}
+use Rattle.logic.specs.Syntax.{Term, var as variable, app, Terms, nil, cons, Result, value, none, Part, part, arrow_of, Parts, only, also, Atom, link, obj, arrows, lit}
+use Rattle.logic.specs.Terms.{count, join, part_terms, parts_terms, terms_of, result_terms, entry_or, nth, front, rest, with_result, with_part_terms, with_parts_terms, with_terms}
+use Rattle.logic.specs.Fill.{Substitution, fill, fills, fill_result, fill_part, fill_parts}
 use Rattle.logic.specs.Occurrence.{Search, past, found, map_search, in_turn, find_term, find_terms, find_atom, find_literal}
 use Rattle.text.specs.Words.{bytes, sign_word, link_word, arrow_word}
 use Rattle.text.specs.Write.{Writer}
-use Rattle.text.proofs.Trees.{Tree, node, Trees, end, byte, bracket, put_inside, texts, number_bytes, tree_term, tree_terms, tree_arguments, tree_result, tree_part, tree_atom, tree_literal}
-use Rattle.filling.proofs.Filling.{fill_tree, fill_trees, trees, tree_term_lem, tree_terms_lem, tree_arguments_lem, tree_result_lem}
+use Rattle.text.proofs.Trees.{Tree, node, Trees, end, byte, bracket, put_inside, texts, number_bytes, tree_term, tree_terms, tree_arguments, tree_result, tree_part, tree_bracketed, tree_parts, tree_atom, tree_literal}
+use Rattle.filling.proofs.Filling.{fill_tree, fill_trees, trees, tree_term_lem, tree_terms_lem, tree_arguments_lem, tree_result_lem, tree_bracketed_lem, tree_parts_lem}
 use Rattle.filling.proofs.Holes.{Found, past as passed, found as spotted, map_found, turn, applied, find_tree, find_trees}
 
 -- Both searches pass alike, or find the same occurrence, with P of it and Q of what they give.
@@ -236,8 +236,8 @@ module _ (σ : Substitution) (u : Term) (P : Term → Type 0) (parts : (n : ℕ)
   a_part a m ts r nil q = absurd (let z : ◌≡◌ {A = ℕ} 0 (suc (count (join ts (result_terms r)))) = q in omega arith)
   a_part a m ts r (cons x us) q = refl
 
-  an_arrow : (o : Term) (p : Part) (us : Terms) → count us ≡ suc (count (part_terms p)) → node (texts (bytes (arrow_word (arrow_of p))) (byte 32 (ahead (parted p) us))) ≡ tree_atom (with_terms (arrows o p) us)
-  unfolding ahead tree_atom with_terms with_part_terms nth entry_or count rest
+  an_arrow : (o : Term) (p : Part) (us : Terms) → count us ≡ suc (count (part_terms p)) → node (texts (bytes (arrow_word (arrow_of p))) (byte 32 (ahead (parted p) us))) ≡ tree_atom (with_terms (arrows o (only p)) us)
+  unfolding ahead tree_atom with_terms with_parts_terms with_part_terms nth entry_or count rest
   an_arrow o p nil q = absurd (let z : ◌≡◌ {A = ℕ} 0 (suc (count (part_terms p))) = q in omega arith)
   an_arrow o (part a m ts r) (cons x us) q = refl
 
@@ -261,23 +261,78 @@ module _ (σ : Substitution) (u : Term) (P : Term → Type 0) (parts : (n : ℕ)
       let us = join ts (result_terms r) in
       alike_as (parted (part a m ts r)) (a_part a m ts r) (alike_then m h.0 us (closing ts r) (byte 32 (bracket (tree_arguments ts) (byte 32 (tree_result r)))) (closing ts r (fills σ us)) (ap (byte 32) (filled_closing ts r)) refl (λ n. alike_tree (byte 32) (λ r. r) (alike_closing ts r h.1 n)) k)
 
+  alone : {X : Type 0} {Q : X → Type 0} {tree : X → Tree} {s : Search X} (t : Tree) {g : Found Tree} → Alike σ P Q tree s g → Alike σ P Q (λ x. bracket (tree x) end) s (turn g (fill_tree τ t) (find_trees τ (tree_term u) end) (fill_trees τ end) (put_inside end) bracket)
+  unfolding turn find_trees fill_trees map_found
+  alone t (gone k) = gone k
+  alone t (there o w e p q y) = there o (λ r. w (put_inside end r)) e p q (ap (λ z. bracket z end) y)
+
+  -- A part in brackets, and parts after a space each, from their terms.
+  alike_bracketed : (p : Part) → All P (part_terms p) → (k : ℕ) → Alike σ P (λ us. count us ≡ count (part_terms p)) (λ us. tree_bracketed (with_part_terms p us)) (find_terms σ u (part_terms p) k) (find_tree τ (tree_term u) (tree_bracketed p) k)
+  unfolding tree_bracketed with_part_terms find_trees map_found
+  alike_bracketed (part a m ts r) h k =
+      let vs = byte 32 (tree_part (part a m ts r)) in
+      alike_bracket (texts (bytes (arrow_word a)) vs) (arrow_plain a vs) k
+      (alike_texts {s = find_terms σ u (part_terms (part a m ts r))} (bytes (arrow_word a)) vs (λ j. alike_tree (byte 32) (λ x. x) (alike_part (part a m ts r) h j)) k)
+
+  filled_bracketed : (p : Part) → fill_tree τ (tree_bracketed p) ≡ tree_bracketed (with_part_terms p (fills σ (part_terms p)))
+  filled_bracketed p =
+      tree_bracketed_lem σ p
+      ∙ ap tree_bracketed (sym (part_own (fill_part σ p)) ∙ (part_frame σ p (part_terms (fill_part σ p)) ∙ ap (with_part_terms p) (sym (part_terms_lem σ p))))
+
+  abbrev all_parted : Parts → Terms → Trees
+  all_parted ps us = tree_parts (with_parts_terms ps us)
+
+  filled_parts : (ps : Parts) → fill_trees τ (tree_parts ps) ≡ all_parted ps (fills σ (parts_terms ps))
+  filled_parts ps =
+      tree_parts_lem σ ps
+      ∙ ap tree_parts (sym (parts_own (fill_parts σ ps)) ∙ (parts_frame σ ps (parts_terms (fill_parts σ ps)) ∙ ap (with_parts_terms ps) (sym (parts_terms_lem σ ps))))
+
+  abbrev two_parted : Part → Parts → Terms → Trees
+  two_parted p ps us =
+      let n = count (part_terms p) in bracket (tree_bracketed (with_part_terms p (front n us))) (all_parted ps (rest n us))
+
+  alike_parts : (ps : Parts) → All P (parts_terms ps) → (k : ℕ) → Alike σ P (λ us. count us ≡ count (parts_terms ps)) (all_parted ps) (find_terms σ u (parts_terms ps) k) (find_trees τ (tree_term u) (tree_parts ps) k)
+  unfolding parts_terms tree_parts with_parts_terms find_trees fill_trees
+  alike_parts (only p) h k = alike_tree (byte 32) (λ r. r) (alone (tree_bracketed p) (alike_bracketed p h k))
+  alike_parts (also p ps) h k =
+      let i = all_join P (part_terms p) (parts_terms ps) h in
+      rw (find_join (part_terms p) (parts_terms ps) k)
+      (alike_tree (byte 32) (λ r. r)
+      (alike_turn {tz = two_parted p ps} (fills σ (part_terms p)) (fills σ (parts_terms ps)) (put_inside (tree_parts ps)) join bracket (count_fill σ (part_terms p)) (count_fill σ (parts_terms ps)) (filled_bracketed p) (filled_parts ps)
+      (λ a b q s. (let h = front_join a b (count (part_terms p)) q in rw (h.0, h.1), omega (arith, count_join a b, count_join (part_terms p) (parts_terms ps)))) (alike_bracketed p i.0 k) (λ j. alike_parts ps i.1 j)))
+
+  -- The object of a molecule in front of its parts.
+  unfoldable headed : (Terms → Trees) → Terms → Trees
+  headed tail nil = end
+  headed tail (cons a b) = bracket (tree_term a) (tail b)
+
+  a_molecule : (o : Term) (p : Part) (ps : Parts) (us : Terms) → count us ≡ suc (count (parts_terms (also p ps))) → node (texts (bytes "mol ") (headed (all_parted (also p ps)) us)) ≡ tree_atom (with_terms (arrows o (also p ps)) us)
+  unfolding headed tree_atom with_terms with_parts_terms nth entry_or count rest
+  a_molecule o p ps nil q = absurd (let z : ◌≡◌ {A = ℕ} 0 (suc (count (parts_terms (also p ps)))) = q in omega arith)
+  a_molecule o p ps (cons x us) q = refl
+
+  alike_molecule : (o : Term) (p : Part) (ps : Parts) → P o → All P (parts_terms (also p ps)) → (k : ℕ) → Alike σ P Any tree_atom (find_atom σ u (arrows o (also p ps)) k) (find_tree τ (tree_term u) (tree_atom (arrows o (also p ps))) k)
+  unfolding find_atom terms_of tree_atom find_terms find_trees headed fills count texts
+  alike_molecule o p ps h i k =
+      let qs = also p ps in
+      let ts = bracket (tree_term o) (tree_parts qs) in
+      alike_form (with_terms (arrows o qs)) (λ us q. (a_molecule o p ps us q, tt))
+      (alike_bracket (texts (bytes "mol ") ts) refl k (alike_texts {s = find_terms σ u (cons o (parts_terms qs))} (bytes "mol ") ts
+      (λ j. alike_turn {tz = headed (all_parted qs)} (fill σ o) (fills σ (parts_terms qs)) (put_inside (tree_parts qs)) cons bracket tt (count_fill σ (parts_terms qs)) (tree_term_lem σ o) (filled_parts qs) (λ a b _ q. (refl, ap suc q)) (alike_term o h j) (λ n. alike_parts qs i n)) k))
+
   alike_atom : (x : Atom) → All P (terms_of x) → (k : ℕ) → Alike σ P Any tree_atom (find_atom σ u x k) (find_tree τ (tree_term u) (tree_atom x) k)
-  unfolding find_atom terms_of tree_atom find_trees first tree_terms texts count All
+  unfolding find_atom terms_of parts_terms tree_atom find_trees first tree_terms texts count All
   alike_atom (link l t v) h k =
       let ts = byte 32 (bracket (tree_term t) (byte 32 (bracket (tree_term v) end))) in
       alike_form (with_terms (link l t v)) (λ us q. (two_terms l t v us q, tt)) (alike_bracket (texts (bytes (link_word l)) ts) (link_plain l ts) k (alike_texts {s = find_terms σ u (cons t (cons v nil))} (bytes (link_word l)) ts (λ j. alike_tree (byte 32) (λ r. r)
       (alike_then t h.0 (cons v nil) first (byte 32 (bracket (tree_term v) end)) (first (fills σ (cons v nil))) (filled_last v) refl (λ i. alike_tree (byte 32) (λ r. r) (alike_first (cons v nil) h.1 i)) j)) k))
   alike_atom (obj t) h k = alike_form (with_terms (obj t)) (λ us q. (an_object t us q, tt)) (alike_bracket (texts (bytes "obj ") (first (cons t nil))) refl k (alike_texts {s = find_terms σ u (cons t nil)} (bytes "obj ") (first (cons t nil)) (alike_first (cons t nil) h) k))
-  alike_atom (arrows o p) h k =
+  alike_atom (arrows o (also p ps)) h k = alike_molecule o p ps h.0 h.1 k
+  alike_atom (arrows o (only p)) h k =
       let a = arrow_of p in
       let vs = byte 32 (bracket (tree_term o) (byte 32 (tree_part p))) in
-      alike_form (with_terms (arrows o p)) (λ us q. (an_arrow o p us q, tt)) (alike_bracket (texts (bytes (arrow_word a)) vs) (arrow_plain a vs) k (alike_texts {s = find_terms σ u (cons o (part_terms p))} (bytes (arrow_word a)) vs (λ j. alike_tree (byte 32) (λ r. r)
+      alike_form (with_terms (arrows o (only p))) (λ us q. (an_arrow o p us q, tt)) (alike_bracket (texts (bytes (arrow_word a)) vs) (arrow_plain a vs) k (alike_texts {s = find_terms σ u (cons o (part_terms p))} (bytes (arrow_word a)) vs (λ j. alike_tree (byte 32) (λ r. r)
       (alike_then o h.0 (part_terms p) (parted p) (byte 32 (tree_part p)) (parted p (fills σ (part_terms p))) (filled_part p) refl (λ i. alike_tree (byte 32) (λ r. r) (alike_part p h.1 i)) j)) k))
-
-  alone : {X : Type 0} {Q : X → Type 0} {tree : X → Tree} {s : Search X} (t : Tree) {g : Found Tree} → Alike σ P Q tree s g → Alike σ P Q (λ x. bracket (tree x) end) s (turn g (fill_tree τ t) (find_trees τ (tree_term u) end) (fill_trees τ end) (put_inside end) bracket)
-  unfolding turn find_trees fill_trees map_found
-  alone t (gone k) = gone k
-  alone t (there o w e p q y) = there o (λ r. w (put_inside end r)) e p q (ap (λ z. bracket z end) y)
 
   -- Both searches of a literal.
   pub alike_literal : (g : Sign) (x : Atom) → All P (terms_of x) → (k : ℕ) → Alike σ P Any tree_literal (find_literal σ u (lit g x) k) (find_tree τ (tree_term u) (tree_literal (lit g x)) k)

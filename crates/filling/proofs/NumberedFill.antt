@@ -7,7 +7,7 @@ use native.Mathlib.Omega.{arith}
 use lib.Dec.{T, ltb, leb→le, le→leb, ltb→lt, lt→ltb}
 use Rattle.logic.specs.declared.Sign.TheVariants.{Positive}
 use Rattle.logic.specs.declared.Arrow.{Arrow}
-use Rattle.logic.specs.Syntax.{Term, var, app, Terms, nil, cons, Result, value, none, Part, part, Atom, link, obj, arrows, lit}
+use Rattle.logic.specs.Syntax.{Term, var, app, Terms, nil, cons, Result, value, none, Part, part, Parts, only, also, Atom, link, obj, arrows, lit}
 use Rattle.logic.specs.Terms.{terms_of}
 use Rattle.logic.specs.Each.{each_term, each_terms, each_atom, atom_over, allowed, term_width, terms_width}
 use Rattle.logic.specs.Fill.{Substitution, fill, fills, fill_atom, fill_literal, fill_clause}
@@ -15,7 +15,7 @@ use Rattle.logic.proofs.Both.{left, right, both}
 use Rattle.logic.proofs.Ground.{each_fill, eachs_fill}
 use Rattle.logic.proofs.Over.{Over, fill_over}
 use Rattle.text.specs.Write.{put_atom}
-use Rattle.text.specs.Form.{formed_number, numbered, numbereds, formed_term, formed_terms, formed_result, formed_part, formed_atom, formed_literal, formed_clause}
+use Rattle.text.specs.Form.{formed_number, numbered, numbereds, formed_term, formed_terms, formed_result, formed_part, formed_parts, formed_atom, formed_literal, formed_clause}
 use Rattle.text.proofs.Tests.{T_and}
 use Rattle.text.proofs.Unique.{atom_unique}
 use Rattle.text.proofs.Deep.{formed_symbol, each_numbered, eachs_numbered, numbered_each, numbereds_each, atom_depth, atom_formed, formed_over}
@@ -85,8 +85,13 @@ part_deeper d e (part a m ts r) h f =
     let ((q, y), z) = simp T_and at f in
     simp T_and ((term_deeper d e m h q, terms_deeper d e ts h y), result_deeper d e a r h z)
 
+parts_deeper : (d e : ℕ) (ps : Parts) → d ≤ e → T (formed_parts d ps) → T (formed_parts e ps)
+unfolding formed_parts
+parts_deeper d e (only p) h f = part_deeper d e p h f
+parts_deeper d e (also p ps) h f = let (m, n) = simp T_and at f in simp T_and (part_deeper d e p h m, parts_deeper d e ps h n)
+
 pub atom_deeper : (d e : ℕ) (x : Atom) → d ≤ e → T (formed_atom d x) → T (formed_atom e x)
 unfolding formed_atom
 atom_deeper d e (link l t u) h f = let (m, n) = simp T_and at f in simp T_and (term_deeper d e t h m, term_deeper d e u h n)
 atom_deeper d e (obj t) h f = term_deeper d e t h f
-atom_deeper d e (arrows o p) h f = let (m, n) = simp T_and at f in simp T_and (term_deeper d e o h m, part_deeper d e p h n)
+atom_deeper d e (arrows o ps) h f = let (m, n) = simp T_and at f in simp T_and (term_deeper d e o h m, parts_deeper d e ps h n)

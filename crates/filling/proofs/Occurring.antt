@@ -6,14 +6,14 @@ use native.Mathlib.Omega.{arith}
 use lib.Dec.{T, leb→le, le→leb}
 use lib.ListN.{length}
 use Rattle.logic.specs.declared.Sign.{Sign}
-use Rattle.logic.specs.Syntax.{Term, app, Terms, nil, cons, Result, value, none, Part, part, Atom, link, obj, arrows, Literal, lit}
-use Rattle.logic.specs.Terms.{join, result_terms, part_terms, terms_of}
+use Rattle.logic.specs.Syntax.{Term, app, Terms, nil, cons, Result, value, none, Part, part, Parts, only, also, Atom, link, obj, arrows, Literal, lit}
+use Rattle.logic.specs.Terms.{join, result_terms, part_terms, parts_terms, terms_of}
 use Rattle.logic.specs.Each.{term_width, terms_width}
 use Rattle.logic.specs.Fill.{Substitution, fill}
 use Rattle.logic.specs.Occurrence.{Search, past, found, find_literal}
 use Rattle.text.specs.Words.{bytes, sign_word}
 use Rattle.text.specs.Write.{put_term, put_literal}
-use Rattle.text.specs.Form.{depth_of, depth_ofs, numbered, numbereds, formed_term, formed_terms, formed_result, formed_part, formed_atom}
+use Rattle.text.specs.Form.{depth_of, depth_ofs, numbered, numbereds, formed_term, formed_terms, formed_result, formed_part, formed_parts, formed_atom}
 use Rattle.text.specs.Read.{Parsed, bad, got, strip}
 use Rattle.text.specs.Access.{seek, to_occurrence}
 use Rattle.text.proofs.Tests.{T_and}
@@ -69,11 +69,19 @@ small_part w d (part a m ts r) f h =
     result (value t) f h = ((f, omega arith), tt)
     result none f h = tt
 
+small_parted : (w d : ℕ) (ps : Parts) → T (formed_parts d ps) → terms_width (parts_terms ps) ≤ w → All (Small w d) (parts_terms ps)
+unfolding formed_parts parts_terms
+small_parted w d (only p) f h = small_part w d p f h
+small_parted w d (also p ps) f h =
+    let (g, k) = simp T_and at f in
+    let j = join_width (part_terms p) (parts_terms ps) in
+    all_of_join (Small w d) (part_terms p) (parts_terms ps) (small_part w d p g (omega arith)) (small_parted w d ps k (omega arith))
+
 small_atom : (w d : ℕ) (x : Atom) → T (formed_atom d x) → terms_width (terms_of x) ≤ w → All (Small w d) (terms_of x)
 unfolding All formed_atom terms_of terms_width
 small_atom w d (link l t u) f h = let (a, b) = simp T_and at f in ((a, omega arith), ((b, omega arith), tt))
 small_atom w d (obj t) f h = ((f, omega arith), tt)
-small_atom w d (arrows o p) f h = let (a, b) = simp T_and at f in ((a, omega arith), small_part w d p b (omega arith))
+small_atom w d (arrows o ps) f h = let (a, b) = simp T_and at f in ((a, omega arith), small_parted w d ps b (omega arith))
 
 -- What the search for occurrence k says of the bytes of a literal that is followed by `rest`, and of filling with the hole there.
 pub data Occurs (f : Filler) (σ : Substitution) (w d depth k : ℕ) (l : Literal) (rest : List ℕ) : Search Literal → Type 0 where
@@ -84,18 +92,18 @@ module _ (f : Filler) (σ : Substitution) (w d D : ℕ) (entry : (n : ℕ) → n
   given_new : (e : ℕ) → D ≤ e → (r : List ℕ) × (f.new e ≡ got (put_tree (tree_term u) []) r)
   given_new e h = ((new e h).0, (new e h).1 ∙ ap (λ b. got b (new e h).0) (put_term_lem u []))
 
-  occurs_as : (k : ℕ) (l : Literal) (rest : List ℕ) {s : Search Literal} {g : Found Tree} → to_occurrence k (put_literal l rest) ≡ ended rest g → Good f (stack D (suc (suc (suc d)))) (tree_literal l) g → Alike σ (Small w d) (λ _. Unit {0}) tree_literal s g → Occurs f σ w d (stack D (suc (suc (suc d)))) k l rest s
+  occurs_as : (k : ℕ) (l : Literal) (rest : List ℕ) {s : Search Literal} {g : Found Tree} → to_occurrence k (put_literal l rest) ≡ ended rest g → Good f (stack D (suc (suc (suc (suc d))))) (tree_literal l) g → Alike σ (Small w d) (λ _. Unit {0}) tree_literal s g → Occurs f σ w d (stack D (suc (suc (suc (suc d))))) k l rest s
   unfolding ended
   occurs_as k l rest p h (gone j) = nowhere j p
   occurs_as k l rest p h (there {x} t v e i _ y) =
       somewhere {l' = x} t (v rest) e i (p ∙ ap (got tt) (sym (put_term_lem t (v rest))))
       (λ o. rw (put_literal_lem l rest, put_literal_lem x [], ← y) ((h rest).filled (o ∙ ap length (put_term_lem t (v rest)))))
 
-  pub occurs : (g : Sign) (x : Atom) → T (formed_atom d x) → terms_width (terms_of x) ≤ w → (k : ℕ) (rest : List ℕ) → Occurs f σ w d (stack D (suc (suc (suc d)))) k (lit g x) rest (find_literal σ u (lit g x) k)
+  pub occurs : (g : Sign) (x : Atom) → T (formed_atom d x) → terms_width (terms_of x) ≤ w → (k : ℕ) (rest : List ℕ) → Occurs f σ w d (stack D (suc (suc (suc (suc d))))) k (lit g x) rest (find_literal σ u (lit g x) k)
   unfolding tree_literal
   occurs g x fx wx k rest =
       let ts = texts (bytes (sign_word g)) (byte 32 (bracket (tree_atom x) end)) in
       occurs_as k (lit g x) rest
       (rw (put_literal_lem (lit g x) rest, in_bracket σ u ts (sign_plain g (bracket (tree_atom x) end)) k) (occurrence_in (trees σ) (tree_term u) ts (clean_literal (lit g x)) k rest))
-      (hole_tree f (trees σ) (Below w) (λ n b. b.0) (given_entry f σ w d entry) (tree_term u) D given_new (tree_literal (lit g x)) k (suc (suc (suc d))) (clean_literal (lit g x)) (within_literal w d g x fx wx))
+      (hole_tree f (trees σ) (Below w) (λ n b. b.0) (given_entry f σ w d entry) (tree_term u) D given_new (tree_literal (lit g x)) k (suc (suc (suc (suc d)))) (clean_literal (lit g x)) (within_literal w d g x fx wx))
       (alike_literal σ u (Small w d) (small_parts w d) g x (small_atom w d x fx wx) k)

@@ -7,7 +7,7 @@ use lib.ListN.{length}
 use Rattle.logic.specs.declared.Sign.{Sign}
 use Rattle.logic.specs.declared.Link.{Link}
 use Rattle.logic.specs.declared.Arrow.{Arrow}
-use Rattle.logic.specs.Syntax.{Term, Terms, cons, Result, value, Part, part, arrow_of, Atom, link, arrows, method, lit}
+use Rattle.logic.specs.Syntax.{Term, Terms, cons, Result, value, Part, part, only, arrow_of, Atom, link, arrows, method, lit}
 use Rattle.logic.specs.Terms.{terms_of}
 use Rattle.logic.specs.Each.{terms_width}
 use Rattle.logic.specs.Fill.{Substitution, fill, fills, fill_result, fill_part}
@@ -102,39 +102,39 @@ spots_second σ u t v = rw (tree_term_lem σ t)
 
 -- A spot behind the word of an atom, and the literal that it leads to.
 module _ (f : Filler) (σ : Substitution) (w d D : ℕ) (entry : (n : ℕ) → n < w → f.entry n ≡ put_term (σ n) []) (u : Term) (new : (e : ℕ) → D ≤ e → (r : List ℕ) × (f.new e ≡ got (put_term u []) r)) (g : Sign) where
-  by_spot : (x : Atom) (wd : List ℕ) (ts : Trees) → tree_atom x ≡ node (texts wd ts) → T (formed_atom d x) → terms_width (terms_of x) ≤ w → (p : SpotIn ts) (t : Term) (v : Writer) (x' : Atom) (us : Trees) → tree_atom x' ≡ node (texts wd us) → spot_in (trees σ) (tree_term u) p ≡ found (tree_term t) v us → (rest left : List ℕ) → v (41 ∷ 41 ∷ rest) ≡ left → f.hole ≡ length (put_term t left) → fill_item f (stack D (suc (suc (suc d)))) (put_literal (lit g x) rest) ≡ got (put_literal (lit g x') []) rest
+  by_spot : (x : Atom) (wd : List ℕ) (ts : Trees) → tree_atom x ≡ node (texts wd ts) → T (formed_atom d x) → terms_width (terms_of x) ≤ w → (p : SpotIn ts) (t : Term) (v : Writer) (x' : Atom) (us : Trees) → tree_atom x' ≡ node (texts wd us) → spot_in (trees σ) (tree_term u) p ≡ found (tree_term t) v us → (rest left : List ℕ) → v (41 ∷ 41 ∷ rest) ≡ left → f.hole ≡ length (put_term t left) → fill_item f (stack D (suc (suc (suc (suc d))))) (put_literal (lit g x) rest) ≡ got (put_literal (lit g x') []) rest
   unfolding tree_literal
   by_spot x wd ts shape fx wx p t v x' us shape' e rest left q h =
       let around : Tree → Tree = λ y. node (texts (bytes (sign_word g)) (byte 32 (bracket y end))) in
       let s = atom_spot g wd p in
-      let good = spot_held f (trees σ) (Below w) (λ n b. b.0) (λ n b. entry n b.1 ∙ put_term_lem (σ n) []) (tree_term u) D (λ x i. ((new x i).0, (new x i).1 ∙ ap (λ b. got b (new x i).0) (put_term_lem u []))) s (suc (suc (suc d))) (subst (λ y. Clean (around y)) shape (clean_literal (lit g x))) (subst (λ y. Within (Below w) (around y) (suc (suc (suc d)))) shape (within_literal w d g x fx wx)) in
-      let held = subst (Good f (stack D (suc (suc (suc d)))) (around (node (texts wd ts)))) (spot_atom (trees σ) (tree_term u) g wd p e) good rest in
-      ap (fill_item f (stack D (suc (suc (suc d))))) (put_literal_lem (lit g x) rest ∙ ap (λ y. put_tree (around y) rest) shape)
+      let good = spot_held f (trees σ) (Below w) (λ n b. b.0) (λ n b. entry n b.1 ∙ put_term_lem (σ n) []) (tree_term u) D (λ x i. ((new x i).0, (new x i).1 ∙ ap (λ b. got b (new x i).0) (put_term_lem u []))) s (suc (suc (suc (suc d)))) (subst (λ y. Clean (around y)) shape (clean_literal (lit g x))) (subst (λ y. Within (Below w) (around y) (suc (suc (suc (suc d))))) shape (within_literal w d g x fx wx)) in
+      let held = subst (Good f (stack D (suc (suc (suc (suc d))))) (around (node (texts wd ts)))) (spot_atom (trees σ) (tree_term u) g wd p e) good rest in
+      ap (fill_item f (stack D (suc (suc (suc (suc d)))))) (put_literal_lem (lit g x) rest ∙ ap (λ y. put_tree (around y) rest) shape)
       ∙ (held.filled (h ∙ ap length (put_term_lem t left ∙ ap (put_tree (tree_term t)) (sym q)))
       ∙ ap (λ b. got b rest) (sym (put_literal_lem (lit g x') [] ∙ ap (λ y. put_tree (around y) []) shape')))
 
   -- "r", the second term of a link
-  pub hole_second : (l : Link) (t v : Term) → T (formed_atom d (link l t v)) → terms_width (terms_of (link l t v)) ≤ w → (rest : List ℕ) → f.hole ≡ length (put_term v (word ")" (word ")" rest))) → fill_item f (stack D (suc (suc (suc d)))) (put_literal (lit g (link l t v)) rest) ≡ got (put_literal (lit g (link l (fill σ t) u)) []) rest
+  pub hole_second : (l : Link) (t v : Term) → T (formed_atom d (link l t v)) → terms_width (terms_of (link l t v)) ≤ w → (rest : List ℕ) → f.hole ≡ length (put_term v (word ")" (word ")" rest))) → fill_item f (stack D (suc (suc (suc (suc d))))) (put_literal (lit g (link l t v)) rest) ≡ got (put_literal (lit g (link l (fill σ t) u)) []) rest
   unfolding tree_atom
   hole_second l t v fx wx rest h = by_spot (link l t v) (bytes (link_word l)) (pair t v) refl fx wx (second_spot t v) v (λ x. x) (link l (fill σ t) u) (pair (fill σ t) u) refl (spots_second σ u t v) rest _ refl h
 
-  module _ (o : Term) (p : Part) (fx : T (formed_atom d (arrows o p))) (wx : terms_width (terms_of (arrows o p)) ≤ w) where
-    in_arrow : (q : SpotIn (behind o (tree_part p))) (t : Term) (v : Writer) (o' : Term) (p' : Part) → arrow_of p' ≡ arrow_of p → spot_in (trees σ) (tree_term u) q ≡ found (tree_term t) v (behind o' (tree_part p')) → (rest left : List ℕ) → v (41 ∷ 41 ∷ rest) ≡ left → f.hole ≡ length (put_term t left) → fill_item f (stack D (suc (suc (suc d)))) (put_literal (lit g (arrows o p)) rest) ≡ got (put_literal (lit g (arrows o' p')) []) rest
+  module _ (o : Term) (p : Part) (fx : T (formed_atom d (arrows o (only p)))) (wx : terms_width (terms_of (arrows o (only p))) ≤ w) where
+    in_arrow : (q : SpotIn (behind o (tree_part p))) (t : Term) (v : Writer) (o' : Term) (p' : Part) → arrow_of p' ≡ arrow_of p → spot_in (trees σ) (tree_term u) q ≡ found (tree_term t) v (behind o' (tree_part p')) → (rest left : List ℕ) → v (41 ∷ 41 ∷ rest) ≡ left → f.hole ≡ length (put_term t left) → fill_item f (stack D (suc (suc (suc (suc d))))) (put_literal (lit g (arrows o (only p))) rest) ≡ got (put_literal (lit g (arrows o' (only p'))) []) rest
     unfolding tree_atom
     in_arrow q t v o' p' same e rest left i h =
-        by_spot (arrows o p) (bytes (arrow_word (arrow_of p))) (behind o (tree_part p)) refl fx wx q t v (arrows o' p') (behind o' (tree_part p')) (rw same) e rest left i h
+        by_spot (arrows o (only p)) (bytes (arrow_word (arrow_of p))) (behind o (tree_part p)) refl fx wx q t v (arrows o' (only p')) (behind o' (tree_part p')) (rw same) e rest left i h
 
     -- "first, object S"
-    pub hole_object : (rest : List ℕ) → f.hole ≡ length (put_term o (word " " (put_part p (word ")" rest)))) → fill_item f (stack D (suc (suc (suc d)))) (put_literal (lit g (arrows o p)) rest) ≡ got (put_literal (lit g (arrows u (fill_part σ p))) []) rest
+    pub hole_object : (rest : List ℕ) → f.hole ≡ length (put_term o (word " " (put_part p (word ")" rest)))) → fill_item f (stack D (suc (suc (suc (suc d))))) (put_literal (lit g (arrows o (only p))) rest) ≡ got (put_literal (lit g (arrows u (only (fill_part σ p)))) []) rest
     unfolding put_inside
     hole_object rest h = in_arrow (object_spot o (tree_part p)) o _ u (fill_part σ p) (arrow_fill σ p) (spots_object σ u o p) rest _ (rw (put_part_lem p (41 ∷ rest))) h
 
   module _ (a : Arrow) (o m : Term) (ts : Terms) where
     -- "first, argument K is S"
-    pub hole_argument : (r : Result) → T (formed_atom d (method a o m ts r)) → terms_width (terms_of (method a o m ts r)) ≤ w → {t : Term} {k : ℕ} {more : Terms} (p : Argument t k ts more) (rest : List ℕ) → f.hole ≡ length (put_term t (put_terms more (word ")" (word " " (put_result r (word ")" (word ")" rest))))))) → fill_item f (stack D (suc (suc (suc d)))) (put_literal (lit g (method a o m ts r)) rest) ≡ got (put_literal (lit g (method a (fill σ o) (fill σ m) (replaced σ u p) (fill_result σ r))) []) rest
+    pub hole_argument : (r : Result) → T (formed_atom d (method a o m ts r)) → terms_width (terms_of (method a o m ts r)) ≤ w → {t : Term} {k : ℕ} {more : Terms} (p : Argument t k ts more) (rest : List ℕ) → f.hole ≡ length (put_term t (put_terms more (word ")" (word " " (put_result r (word ")" (word ")" rest))))))) → fill_item f (stack D (suc (suc (suc (suc d))))) (put_literal (lit g (method a o m ts r)) rest) ≡ got (put_literal (lit g (method a (fill σ o) (fill σ m) (replaced σ u p) (fill_result σ r))) []) rest
     unfolding put_inside
     hole_argument r fx wx {t} {more} p rest h = in_arrow o (part a m ts r) fx wx (in_part o (in_arguments σ u a m ts r p)) t _ (fill σ o) (part a (fill σ m) (replaced σ u p) (fill_result σ r)) refl (spots_in_part σ u o _ (spots_in_arguments σ u a m ts r p)) rest _ (rw (put_result_lem r (41 ∷ 41 ∷ rest), put_terms_lem more _)) h
 
     -- "first, result S"
-    pub hole_result : (t : Term) → T (formed_atom d (method a o m ts (value t))) → terms_width (terms_of (method a o m ts (value t))) ≤ w → (rest : List ℕ) → f.hole ≡ length (put_term t (word ")" (word ")" rest))) → fill_item f (stack D (suc (suc (suc d)))) (put_literal (lit g (method a o m ts (value t))) rest) ≡ got (put_literal (lit g (method a (fill σ o) (fill σ m) (fills σ ts) (value u))) []) rest
+    pub hole_result : (t : Term) → T (formed_atom d (method a o m ts (value t))) → terms_width (terms_of (method a o m ts (value t))) ≤ w → (rest : List ℕ) → f.hole ≡ length (put_term t (word ")" (word ")" rest))) → fill_item f (stack D (suc (suc (suc (suc d))))) (put_literal (lit g (method a o m ts (value t))) rest) ≡ got (put_literal (lit g (method a (fill σ o) (fill σ m) (fills σ ts) (value u))) []) rest
     hole_result t fx wx rest h = in_arrow o (part a m ts (value t)) fx wx (in_part o (result_spot σ u a m ts t)) t (λ x. x) (fill σ o) (part a (fill σ m) (fills σ ts) (value u)) refl (spots_in_part σ u o _ (spots_result σ u a m ts t)) rest _ refl h

@@ -88,10 +88,10 @@ same_item f g (suc depth) ps qs =
     let second = or_else (skip "(v " qs) (λ cs. turned (both (indexed g.entry cs) (fill_item f (suc depth) ps))) (λ _. nested) qs in
     or_else (skip "(v " ps) (λ cs. both (indexed f.entry cs) (fill_item g (suc depth) qs)) (λ _. second) ps
 
--- "Terms nest at most 16 terms deep": where they nest at most so deep, the brackets of a literal are its own, its atom's, its arguments'
--- and those of its terms.
+-- "Terms nest at most 16 terms deep": where they nest at most so deep, the brackets of a literal are its own, its atom's, its part's in a
+-- molecule, its arguments' and those of its terms.
 abbrev pub item_depth : ℕ → ℕ
-item_depth depth = suc (suc (suc depth))
+item_depth depth = suc (suc (suc (suc depth)))
 
 -- With a term in the hole, which the depth left falls for as well.
 abbrev pub hole_depth : ℕ → ℕ

@@ -11,11 +11,11 @@ use clauses::access::{skip, split};
 use scan::numbers::number;
 use scan::words::word;
 
-// The brackets of a literal whose terms nest so deep: its own, its atom's, its arguments', and those of its terms.
+// The brackets of a literal whose terms nest so deep: its own, its atom's, its part's, its arguments', and those of its terms.
 pub fn item_depth(depth: u8) -> usize
     ensures { result ≡ item_depth depth }
 {
-    3 + usize::from(depth)
+    4 + usize::from(depth)
 }
 
 // Those of a literal with a term in place of one of its own.

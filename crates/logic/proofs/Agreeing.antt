@@ -166,6 +166,7 @@ module _ (a b : Clause) (σ σ' τ τ' : Substitution) (p : AgreeClause σ σ' a
       rw (clause_agree σ σ' r (λ v o. p v ((at_variables v h).1 o)))
       (Infers.par h (at_agree b τ τ' q h') (sym (literal_find_agree σ σ' u l k (λ v o. p v ((at_variables v h).0 o))) ∙ w))
   infers_same e (Infers.eli h) = Infers.eli (at_agree a σ σ' p h)
+  infers_same e (Infers.pro h w) = Infers.pro (at_agree a σ σ' p h) w
   infers_same e (Infers.two h h' w) = Infers.two (at_agree a σ σ' p h) (at_agree b τ τ' q h') w
 
 pub infers_agree : (a b : Clause) (σ σ' τ τ' : Substitution) → Agree σ σ' a → Agree τ τ' b →

@@ -8,6 +8,7 @@ pub mod Finding
 pub mod Instances
 pub mod Ground
 pub mod Tested
+pub mod Truth
 pub mod Soundness
 pub mod Entailment
 pub mod Descending
@@ -17,3 +18,4 @@ pub mod Parts
 pub mod Every
 pub mod Over
 pub mod Rewriting
+pub mod Fitting

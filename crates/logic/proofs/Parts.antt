@@ -1,13 +1,14 @@
 -- The parts of an atom of which something holds for each variable and symbol.
 use Prim.Native.Nat.{ℕ}
 use mathlib.Core.Bool.{Bool, true, ◌&&◌}
-use mathlib.Core.Path.{◌≡◌, refl}
+use mathlib.Core.Path.{◌≡◌, refl, ap₂}
 use lib.Dec.{T}
 use Rattle.logic.specs.declared.Link.{Link}
 use Rattle.logic.specs.declared.Arrow.{Arrow}
-use Rattle.logic.specs.Syntax.{Term, Terms, nil, cons, Result, value, none, Part, part, Atom, link, obj, arrows, method, may_be_none}
-use Rattle.logic.specs.Terms.{count, join, result_terms, part_terms, terms_of, with_result, with_part_terms, with_terms}
-use Rattle.logic.specs.Each.{each_term, each_terms, each_atom, atom_over, allowed, allowed_part, allowed_result}
+use Rattle.logic.specs.Syntax.{Term, Terms, nil, cons, Result, value, none, may_be_none}
+use Rattle.logic.specs.Syntax.{Part, part, Parts, only, also, Atom, link, obj, arrows, method}
+use Rattle.logic.specs.Terms.{count, join, result_terms, part_terms, parts_terms, terms_of, with_result, with_part_terms, with_parts_terms, with_terms}
+use Rattle.logic.specs.Each.{each_term, each_terms, each_atom, atom_over, allowed, allowed_part, allowed_parts, allowed_result}
 use Rattle.logic.specs.Occurrence.{Replaced, ReplacedAtom}
 use Rattle.logic.specs.Rules.{Placed}
 use Rattle.logic.proofs.Both.{left, right, both}
@@ -54,11 +55,16 @@ part_allowed : (p : Part) (us : Terms) → allowed_part (with_part_terms p us) �
 unfolding allowed_part with_part_terms
 part_allowed (part a m ts r) us = result_allowed (may_be_none a) r _
 
+parts_allowed : (ps : Parts) (us : Terms) → allowed_parts (with_parts_terms ps us) ≡ allowed_parts ps
+unfolding allowed_parts with_parts_terms
+parts_allowed (only p) us = part_allowed p us
+parts_allowed (also p ps) us = ap₂ ◌&&◌ (part_allowed p _) (parts_allowed ps _)
+
 pub with_allowed : (x : Atom) (us : Terms) → allowed (with_terms x us) ≡ allowed x
 unfolding allowed with_terms
 with_allowed (link l t u) us = refl
 with_allowed (obj t) us = refl
-with_allowed (arrows o p) us = part_allowed p _
+with_allowed (arrows o ps) us = parts_allowed ps _
 
 module _ (p : ℕ → Bool) (s : ℕ → ℕ → Bool) where
   abbrev pub E : Term → Bool
@@ -83,19 +89,36 @@ module _ (p : ℕ → Bool) (s : ℕ → ℕ → Bool) where
   unfolding atom_over allowed each_atom terms_of each_term
   obj_part t h = left (E t) true h
 
-  -- A part: none stands only where it may, and E of its terms. An arrow atom: E of its object, and so its part.
+  -- A part, parts: none stands only where it may, and E of the terms. An arrow atom or a molecule: E of its object, and so its parts.
   abbrev pub PartOver : Part → Type 0
   PartOver q = T (allowed_part q) × T (Es (part_terms q))
 
-  pub arrow_parts : (o : Term) (q : Part) → T (atom_over p s (arrows o q)) → T (E o) × PartOver q
-  unfolding atom_over allowed each_atom terms_of each_term
-  arrow_parts o q h =
-      let w = right (allowed_part q) (E o && Es (part_terms q)) h in
-      (left (E o) (Es (part_terms q)) w, (left (allowed_part q) (E o && Es (part_terms q)) h, right (E o) (Es (part_terms q)) w))
+  abbrev pub PartsOver : Parts → Type 0
+  PartsOver qs = T (allowed_parts qs) × T (Es (parts_terms qs))
 
-  pub arrow_over : (o : Term) (q : Part) → T (E o) → PartOver q → T (atom_over p s (arrows o q))
+  pub only_over : (q : Part) → PartsOver (only q) ≡ PartOver q
+  unfolding allowed_parts parts_terms
+  only_over q = refl
+
+  pub also_parts : (q : Part) (qs : Parts) → PartsOver (also q qs) → PartOver q × PartsOver qs
+  unfolding allowed_parts parts_terms
+  also_parts q qs h =
+      let w = each_join p s (part_terms q) (parts_terms qs) h.1 in
+      ((left (allowed_part q) (allowed_parts qs) h.0, w.0), (right (allowed_part q) (allowed_parts qs) h.0, w.1))
+
+  pub also_over : (q : Part) (qs : Parts) → PartOver q → PartsOver qs → PartsOver (also q qs)
+  unfolding allowed_parts parts_terms
+  also_over q qs h k = (both (allowed_part q) (allowed_parts qs) h.0 k.0, join_each p s (part_terms q) (parts_terms qs) h.1 k.1)
+
+  pub arrow_parts : (o : Term) (qs : Parts) → T (atom_over p s (arrows o qs)) → T (E o) × PartsOver qs
   unfolding atom_over allowed each_atom terms_of each_term
-  arrow_over o q h w = both (allowed_part q) (E o && Es (part_terms q)) w.0 (both (E o) (Es (part_terms q)) h w.1)
+  arrow_parts o qs h =
+      let w = right (allowed_parts qs) (E o && Es (parts_terms qs)) h in
+      (left (E o) (Es (parts_terms qs)) w, (left (allowed_parts qs) (E o && Es (parts_terms qs)) h, right (E o) (Es (parts_terms qs)) w))
+
+  pub arrow_over : (o : Term) (qs : Parts) → T (E o) → PartsOver qs → T (atom_over p s (arrows o qs))
+  unfolding atom_over allowed each_atom terms_of each_term
+  arrow_over o qs h w = both (allowed_parts qs) (E o && Es (parts_terms qs)) w.0 (both (E o) (Es (parts_terms qs)) h w.1)
 
   -- Method, arguments and result of a part.
   abbrev pub Said : Term → Terms → Result → Type 0
@@ -113,24 +136,24 @@ module _ (p : ℕ → Bool) (s : ℕ → ℕ → Bool) where
 
   -- An arrow atom with a term result.
   pub method_parts : (a : Arrow) (o m : Term) (ts : Terms) (r : Term) → T (atom_over p s (method a o m ts (value r))) → T (E o) × T (E m) × T (Es ts) × T (E r)
-  unfolding result_terms each_term
+  unfolding result_terms each_term allowed_parts parts_terms
   method_parts a o m ts r h =
-      let w = arrow_parts o (part a m ts (value r)) h in
+      let w = arrow_parts o (only (part a m ts (value r))) h in
       let v = part_parts a m ts (value r) w.1 in (w.0, v.0, v.1, left (E r) true v.2)
 
   pub method_over : (a : Arrow) (o m : Term) (ts : Terms) (r : Term) → T (E o) → T (E m) → T (Es ts) → T (E r) → T (atom_over p s (method a o m ts (value r)))
-  unfolding allowed_result result_terms each_term
-  method_over a o m ts r ho hm hs hr = arrow_over o (part a m ts (value r)) ho (part_over a m ts (value r) tt (hm, hs, both (E r) true hr tt))
+  unfolding allowed_result result_terms each_term allowed_parts parts_terms
+  method_over a o m ts r ho hm hs hr = arrow_over o (only (part a m ts (value r))) ho (part_over a m ts (value r) tt (hm, hs, both (E r) true hr tt))
 
   -- Another object, and another argument; the result stays.
   pub object_over : (a : Arrow) (o m q : Term) (ts : Terms) (r : Result) → T (atom_over p s (method a o m ts r)) → T (E q) → T (atom_over p s (method a q m ts r))
-  object_over a o m q ts r h k = arrow_over q (part a m ts r) k (arrow_parts o (part a m ts r) h).1
+  object_over a o m q ts r h k = arrow_over q (only (part a m ts r)) k (arrow_parts o (only (part a m ts r)) h).1
 
   pub argument_over : (a : Arrow) (o m : Term) {q t : Term} {k : ℕ} {ts us : Terms} (r : Result) → Placed q k t ts us → T (atom_over p s (method a o m ts r)) → T (E q) → T (atom_over p s (method a o m us r))
-  unfolding allowed_part
+  unfolding allowed_part allowed_parts parts_terms
   argument_over a o m {ts = ts} {us} r v h k =
-      let w = arrow_parts o (part a m ts r) h in
-      let z = part_parts a m ts r w.1 in arrow_over o (part a m us r) w.0 (part_over a m us r w.1.0 (z.0, placed_each p s v k z.1, z.2))
+      let w = arrow_parts o (only (part a m ts r)) h in
+      let z = part_parts a m ts r w.1 in arrow_over o (only (part a m us r)) w.0 (part_over a m us r w.1.0 (z.0, placed_each p s v k z.1, z.2))
 
   pub replaced_over : (a b : Term) (x y : Atom) → T (E b) → T (atom_over p s x) → ReplacedAtom a b x y → T (atom_over p s y)
   unfolding atom_over each_atom ReplacedAtom

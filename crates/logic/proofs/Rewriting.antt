@@ -9,10 +9,10 @@ use Rattle.logic.specs.declared.Link.{Link}
 use Rattle.logic.specs.declared.Link.TheVariants.{Mem, Sub}
 use Rattle.logic.specs.declared.Arrow.{Arrow}
 use Rattle.logic.specs.declared.Rule.{Rule}
-use Rattle.logic.specs.declared.Rule.TheVariants.{Refl, Res, Fac, Par, Acy, Tra, Inc, Inh, Inp, Out, Sca, Eli}
-use Rattle.logic.specs.Syntax.{Term, Terms, nil, cons, Result, value, none, part, Atom, link, obj, arrows, method, Literal, lit}
+use Rattle.logic.specs.declared.Rule.TheVariants.{Refl, Res, Fac, Par, Acy, Tra, Inc, Inh, Inp, Out, Sca, Eli, Mer, Pro}
+use Rattle.logic.specs.Syntax.{Term, Terms, nil, cons, Result, value, none, part, only, also, Atom, link, obj, arrows, method, Literal, lit}
 use Rattle.logic.specs.Equality.{link?}
-use Rattle.logic.specs.Fill.{Substitution, fill, fills, fill_result, fill_part, fill_atom, fill_literal}
+use Rattle.logic.specs.Fill.{Substitution, fill, fills, fill_result, fill_part, fill_parts, fill_atom, fill_literal}
 use Rattle.logic.specs.Rules.{equal, signature, plus, one}
 use Rattle.logic.specs.Judge.{Conclusion, misshapen, concludes, on_plus, on_link, on_result, on_method, on_placed, on_sub, on_signature, conclude_link, conclude_inh, conclude_inp, conclude_out, table_row}
 
@@ -44,7 +44,7 @@ rewrite k forward σ (hits t) m =
 unfoldable pub link_aim : Link → Atom → Aim
 link_aim k (link l p q) = ite (link? k l) (hits (record { term = q; with = λ σ u. plus (link k (fill σ p) u) })) misses
 link_aim k (obj t) = misses
-link_aim k (arrows o p) = misses
+link_aim k (arrows o ps) = misses
 
 unfoldable pub result_aim : Result → (Term → Aim) → Aim
 result_aim (value t) f = f t
@@ -53,7 +53,8 @@ result_aim none f = misses
 unfoldable pub method_aim : Atom → (Arrow → Term → Term → Terms → Result → Aim) → Aim
 method_aim (link l t u) f = misses
 method_aim (obj t) f = misses
-method_aim (arrows o (part a m ts r)) f = cond (signature a) (f a o m ts r) misses
+method_aim (arrows o (only (part a m ts r))) f = cond (signature a) (f a o m ts r) misses
+method_aim (arrows o (also q qs)) f = misses
 
 unfoldable pub object_aim : Arrow → Term → Term → Terms → Result → Aim
 object_aim a o m ts r = hits (record { term = o; with = λ σ u. plus (method a u (fill σ m) (fills σ ts) (fill_result σ r)) })
@@ -91,6 +92,8 @@ aim k Inp l = positive_aim l (λ x. method_aim x (input_aim k))
 aim k Out l = positive_aim l (λ x. method_aim x output_aim)
 aim k Sca l = misses
 aim k Eli l = misses
+aim k Mer l = misses
+aim k Pro l = misses
 
 -- The views of a filled literal, as rewriting.
 link_rewrite : (k : Link) (σ : Substitution) (x : Atom) (m : Literal) →
@@ -103,16 +106,17 @@ link_rewrite k σ (link l p q) m = go (link? k l)
     go (yes e) = refl
     go (no e) = refl
 link_rewrite k σ (obj t) m = refl
-link_rewrite k σ (arrows o p) m = refl
+link_rewrite k σ (arrows o ps) m = refl
 
 -- A signature, and what is aimed at in it.
 method_rewrite : (d : Bool) (σ : Substitution) (x : Atom) (m : Literal) (f : Arrow → Term → Term → Terms → Result → Conclusion) (g : Arrow → Term → Term → Terms → Result → Aim) →
     ((a : Arrow) (o n : Term) (ts : Terms) (r : Result) → f a (fill σ o) (fill σ n) (fills σ ts) (fill_result σ r) ≡ rewrite Sub d σ (g a o n ts r) m) →
     on_method signature (fill_atom σ x) f ≡ rewrite Sub d σ (method_aim x g) m
-unfolding fill_atom fill_part on_method method_aim rewrite
+unfolding fill_atom fill_parts fill_part on_method method_aim rewrite
 method_rewrite d σ (link l t u) m f g e = refl
 method_rewrite d σ (obj t) m f g e = refl
-method_rewrite d σ (arrows o (part a n ts r)) m f g e = go (signature a)
+method_rewrite d σ (arrows o (also q qs)) m f g e = refl
+method_rewrite d σ (arrows o (only (part a n ts r))) m f g e = go (signature a)
   where
     go : (b : Bool) → cond b (f a (fill σ o) (fill σ n) (fills σ ts) (fill_result σ r)) misshapen ≡ rewrite Sub d σ (cond b (g a o n ts r) misses) m
     go true = e a o n ts r
@@ -140,7 +144,7 @@ sub_misses (lit Positive (link l t u)) = go (link? Sub l)
     go (yes e) = refl
     go (no e) = refl
 sub_misses (lit Positive (obj t)) = refl
-sub_misses (lit Positive (arrows o p)) = refl
+sub_misses (lit Positive (arrows o ps)) = refl
 sub_misses (lit Negative x) = refl
 
 argument_rewrite : (σ : Substitution) (k : ℕ) (ts : Terms) (m : Literal) (f : Term → Terms → Term → Conclusion) (g : Argument → Aim) →

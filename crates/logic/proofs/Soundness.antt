@@ -1,4 +1,4 @@
--- Each of the twelve rules is sound, for one ground substitution, constructively.
+-- Each of the fourteen rules is sound, for one ground substitution, constructively.
 use Prim.Native.Nat.{ℕ, suc}
 use mathlib.Core.Bool.{true, ◌&&◌}
 use mathlib.Core.List.{List, [], ◌∷◌, ◌++◌}
@@ -8,18 +8,20 @@ use lib.Dec.{T}
 use Rattle.logic.specs.declared.Sign.TheVariants.{Positive, Negative}
 use Rattle.logic.specs.declared.Link.TheVariants.{Eq, Sub}
 use Rattle.logic.specs.declared.Rule.{Rule}
-use Rattle.logic.specs.Syntax.{Term, nil, cons, value, Atom, link, obj, method, Literal, lit, Clause}
+use Rattle.logic.specs.Syntax.{Term, nil, cons, value, Part, Parts, only, also, Atom, link, obj, arrows, method, Literal, lit, Clause}
 use Rattle.logic.specs.Terms.{terms_of, with_terms, nth, entry_or}
-use Rattle.logic.specs.Each.{each_term, each_atom, each_clause, declares, never, ground_term, ground_atom}
+use Rattle.logic.specs.Each.{each_term, each_atom, each_clause, declares, never, ground_term, no_molecule, ground_atom}
 use Rattle.logic.specs.Fill.{Substitution, fill_atom, fill_literal, fill_clause}
 use Rattle.logic.specs.Occurrence.{found, find_atom, find_literal, Replaced, ReplacedAtom}
-use Rattle.logic.specs.Rules.{uses, Covers, Agreement, equal, Holds, plus, minus, one, Row, Parent, filled, At, Infers}
-use Rattle.logic.specs.Structure.{Structure, SatisfiesLiteral, SomeLiteral, Satisfies}
+use Rattle.logic.specs.Rules.{uses, Fits, Agreement, equal, Holds, PartAt, plus, minus, one, Row, Parent, filled, At, Infers}
+use Rattle.logic.specs.Structure.{Structure, AllIn, TrueIn, SatisfiesLiteral, SomeLiteral, Satisfies}
 use Rattle.logic.proofs.Both.{left}
 use Rattle.logic.proofs.Finding.{atom_back, atom_replaced, found_map}
 use Rattle.logic.proofs.Instances.{at_fill}
 use Rattle.logic.proofs.Ground.{at_each}
 use Rattle.logic.proofs.Parts.{link_parts}
+use Rattle.logic.proofs.Truth.{true_replaced, fits_true, join_true}
+use Rattle.logic.proofs.Tested.{atom_in}
 
 -- A satisfied literal of a clause is at a position or among the others.
 module _ (S : Atom → Type 0) where
@@ -59,13 +61,8 @@ module _ (S : Atom → Type 0) where
   some_right (l ∷ c) d h = inr (some_right c d h)
 
 module _ {table : List ℕ} (H : Atom → Type 0) (S : Structure table H) where
-  covers_holds : {x y : Atom} → Covers x y → H x → H y
-  unfolding Covers
-  covers_holds (inl e) h = subst H e h
-  covers_holds (inr e) h = subst H e (S.none_holds h)
-
   eq_ground : {a b : Term} → H (link Eq a b) → T (ground_term table a)
-  unfolding ground_atom ground_term
+  unfolding ground_atom no_molecule ground_term
   eq_ground {a} {b} h = (link_parts never (declares table) Eq a b (S.ground h)).0
 
   eq_sym : {a b : Term} → H (link Eq a b) → H (link Eq b a)
@@ -77,14 +74,16 @@ module _ {table : List ℕ} (H : Atom → Type 0) (S : Structure table H) where
       H (link Eq s u) → SatisfiesLiteral H (fill_literal σ l) → SatisfiesLiteral H l'
   unfolding find_literal fill_literal SatisfiesLiteral
   replaced_sound σ u (lit Positive x) k e q h =
-      found_map (lit Positive) (find_atom σ u x k) e (λ y e₁ e₂. rw (← e₂) (S.replace q h (atom_replaced σ u x k e₁)))
+      found_map (lit Positive) (find_atom σ u x k) e (λ y e₁ e₂.
+      rw (← e₂) (true_replaced H S q (fill_atom σ x) y (atom_replaced σ u x k e₁) h))
   replaced_sound σ u {s} (lit Negative x) k e q h =
-      found_map (lit Negative) (find_atom σ u x k) e (λ y e₁ e₂. rw (← e₂) (λ w. h (S.replace (eq_sym q) w (atom_back s u (fill_atom σ x) y (atom_replaced σ u x k e₁)))))
+      found_map (lit Negative) (find_atom σ u x k) e (λ y e₁ e₂.
+      rw (← e₂) (λ w. h (true_replaced H S (eq_sym q) y (fill_atom σ x) (atom_back s u (fill_atom σ x) y (atom_replaced σ u x k e₁)) w)))
 
   row_sound : {k : ℕ} {rule : Rule} {l m : Literal} {g : Agreement} {new : Clause} → Row k rule l m g new → Holds g →
       SatisfiesLiteral H l → SatisfiesLiteral H m → SomeLiteral H new
-  unfolding Holds SatisfiesLiteral SomeLiteral
-  row_sound Row.res e h h' = h (covers_holds e h')
+  unfolding Holds SatisfiesLiteral SomeLiteral TrueIn AllIn
+  row_sound (Row.res {x = x} {y = y}) e h h' = h (fits_true H S x y e h')
   row_sound (Row.acy {p = p} {q = q} {p' = p'} {q' = q'}) e h h' = let w : link Sub q' p' ≡ link Sub q p = cc in inl (S.sub_antisym h (subst H w h'))
   row_sound (Row.tra {q = q} {q' = q'} {r = r}) e h h' = let w : link Sub q' r ≡ link Sub q r = cc in inl (S.sub_trans h (subst H w h'))
   row_sound (Row.inc {q = q} {q' = q'} {r = r}) e h h' = let w : link Sub q' r ≡ link Sub q r = cc in inl (S.mem_sub h (subst H w h'))
@@ -93,6 +92,8 @@ module _ {table : List ℕ} (H : Atom → Type 0) (S : Structure table H) where
   row_sound (Row.out {r = r} {r' = r'} {s = s} t) e h h' = let w : link Sub r' s ≡ link Sub r s = cc in inl (S.sub_result t h (subst H w h'))
   row_sound (Row.sca {a = a} {b = b} {o = o} {m = m} {o' = o'} {m' = m'} {r' = r'} {ts = ts} {ts' = ts'} t t') e h h' =
       let w : method b o' m' ts' (value r') ≡ method a o m ts (value r') = cc in inl (S.scalar_eq t h (subst H w h'))
+  row_sound (Row.mer {o = o} {o' = o'} {ps = ps} {qs = qs}) e h h' =
+      let w : o' ≡ o = cc in inl (join_true H S o ps qs h (subst (λ t. AllIn H t qs) w h'))
 
   obj_ground : (p : Term) → T (each_clause never (declares table) (minus (obj p) ∷ [])) → T (ground_term table p)
   unfolding each_clause each_atom each_term terms_of ground_term
@@ -111,7 +112,7 @@ module _ {table : List ℕ} (H : Atom → Type 0) (S : Structure table H) where
   par_sound : (A B : Parent) (k : ℕ) {i j : ℕ} {l l' : Literal} {s s' u : Term} {r r' : Clause} →
       At i l A.clause r → At j (plus (link Eq s' u)) (filled B) r' → find_literal A.image u l k ≡ found s l' → Holds (equal (one s) (one s')) →
       SomeLiteral H (filled A) → SomeLiteral H (filled B) → SomeLiteral H (l' ∷ (fill_clause A.image r ++ r'))
-  unfolding Holds filled SomeLiteral SatisfiesLiteral
+  unfolding Holds filled SomeLiteral SatisfiesLiteral TrueIn
   par_sound A B k {l = l} {l'} {s} {s'} {u} {r} {r'} p q e w h h' =
       go (at_split H (at_fill A.image p) h) (at_split H q h')
     where
@@ -127,30 +128,39 @@ module _ {table : List ℕ} (H : Atom → Type 0) (S : Structure table H) where
       go (inl x) (inr y) = inr (some_right H (fill_clause σ r) r' y)
       go (inr x) y = inr (some_left H (fill_clause σ r) r' x)
 
-  -- Factoring: the literal that goes is covered by, or covers, the one that stays.
-  fac_plus : {i j : ℕ} {x y : Atom} {c r r' : Clause} → At i (plus x) c r → At j (plus y) c r' → (i ≡ j → ⊥) → Covers y x → SomeLiteral H c → SomeLiteral H r'
+  -- Factoring: the literal that goes fits into the one that stays, or has it fit in.
+  fac_plus : {i j : ℕ} {x y : Atom} {c r r' : Clause} → At i (plus x) c r → At j (plus y) c r' → (i ≡ j → ⊥) → Fits x y → SomeLiteral H c → SomeLiteral H r'
   unfolding SatisfiesLiteral
-  fac_plus {y = y} {r' = r'} p q n e h = go (at_split H q h)
+  fac_plus {x = x} {y} {r' = r'} p q n e h = go (at_split H q h)
     where
-      go : H y ⊎ SomeLiteral H r' → SomeLiteral H r'
-      go (inl w) = at_other H p q n (covers_holds e w)
+      go : TrueIn H y ⊎ SomeLiteral H r' → SomeLiteral H r'
+      go (inl w) = at_other H p q n (fits_true H S x y e w)
       go (inr w) = w
 
-  fac_minus : {i j : ℕ} {x y : Atom} {c r r' : Clause} → At i (minus x) c r → At j (minus y) c r' → (i ≡ j → ⊥) → Covers y x → SomeLiteral H c → SomeLiteral H r
+  fac_minus : {i j : ℕ} {x y : Atom} {c r r' : Clause} → At i (minus x) c r → At j (minus y) c r' → (i ≡ j → ⊥) → Fits x y → SomeLiteral H c → SomeLiteral H r
   unfolding SatisfiesLiteral
-  fac_minus {x = x} {r = r} p q n e h = go (at_split H p h)
+  fac_minus {x = x} {y} {r = r} p q n e h = go (at_split H p h)
     where
-      go : (H x → ⊥) ⊎ SomeLiteral H r → SomeLiteral H r
-      go (inl w) = at_other H q p (λ h. n (sym h)) (λ v. w (covers_holds e v))
+      go : (TrueIn H x → ⊥) ⊎ SomeLiteral H r → SomeLiteral H r
+      go (inl w) = at_other H q p (λ h. n (sym h)) (λ v. w (fits_true H S x y e v))
       go (inr w) = w
 
   eli_sound : {i : ℕ} {p : Term} {c r : Clause} → At i (minus (obj p)) c r → T (each_clause never (declares table) c) → SomeLiteral H c → SomeLiteral H r
-  unfolding SatisfiesLiteral
+  unfolding SatisfiesLiteral TrueIn
   eli_sound {p = p} {r = r} q g h = go (at_split H q h)
     where
       go : (H (obj p) → ⊥) ⊎ SomeLiteral H r → SomeLiteral H r
       go (inl w) = absurd (w (S.obj_all p (obj_ground p (at_each never (declares table) q g))))
       go (inr w) = w
+
+  pro_sound : {i k : ℕ} {o : Term} {p q : Part} {ps : Parts} {c r : Clause} → At i (plus (arrows o (also p ps))) c r → PartAt k q (also p ps) →
+      SomeLiteral H c → SomeLiteral H (plus (arrows o (only q)) ∷ r)
+  unfolding SomeLiteral SatisfiesLiteral TrueIn AllIn
+  pro_sound {o = o} {p} {q} {ps} {r = r} a w h = go (at_split H a h)
+    where
+      go : (H (arrows o (only p)) × AllIn H o ps) ⊎ SomeLiteral H r → H (arrows o (only q)) ⊎ SomeLiteral H r
+      go (inl t) = inl (atom_in H o w t)
+      go (inr t) = inr t
 
   row_uses : {k : ℕ} {rule : Rule} {l m : Literal} {g : Agreement} {new : Clause} → Row k rule l m g new → T (uses rule).a × T (uses rule).b
   unfolding uses
@@ -162,16 +172,18 @@ module _ {table : List ℕ} (H : Atom → Type 0) (S : Structure table H) where
   row_uses (Row.inp h p) = (tt, tt)
   row_uses (Row.out h) = (tt, tt)
   row_uses (Row.sca h h') = (tt, tt)
+  row_uses Row.mer = (tt, tt)
 
-  -- All twelve: where the used parents are satisfied, so is what the rule gives.
+  -- All fourteen: where the used parents are satisfied, so is what the rule gives.
   pub infers_sound : (A B : Parent) {i j k : ℕ} {rule : Rule} {g : Agreement} {c : Clause} →
       T (each_clause never (declares table) (filled A)) → T (ground_term table (A.image 0)) →
       Infers A B i j k rule g c → Holds g →
       (T (uses rule).a → Satisfies H (filled A)) → (T (uses rule).b → Satisfies H (filled B)) → Satisfies H c
-  unfolding uses Holds SomeLiteral SatisfiesLiteral Satisfies
+  unfolding uses Holds SomeLiteral SatisfiesLiteral Satisfies TrueIn
   infers_sound A B ground zero-ground Infers.refl e a b n = n (inl (S.sub_refl (A.image 0) zero-ground))
   infers_sound A B ground zero-ground (Infers.fac⁺ p q d) e a b n = a tt (λ h. n (fac_plus p q d e h))
   infers_sound A B ground zero-ground (Infers.fac⁻ p q d) e a b n = a tt (λ h. n (fac_minus p q d e h))
   infers_sound A B {k = k} ground zero-ground (Infers.par p q w) e a b n = a tt (λ h. b tt (λ h'. n (par_sound A B k p q w e h h')))
   infers_sound A B ground zero-ground (Infers.eli p) e a b n = a tt (λ h. n (eli_sound p ground h))
+  infers_sound A B ground zero-ground (Infers.pro p w) e a b n = a tt (λ h. n (pro_sound p w h))
   infers_sound A B ground zero-ground (Infers.two p q w) e a b n = a (row_uses w).0 (λ h. b (row_uses w).1 (λ h'. n (two_sound p q w e h h')))

@@ -11,13 +11,14 @@ use Rattle.logic.specs.declared.Link.{Link}
 use Rattle.logic.specs.declared.Link.TheVariants.{Eq, Mem, Sub}
 use Rattle.logic.specs.declared.Arrow.{Arrow}
 use Rattle.logic.specs.declared.Rule.{Rule}
-use Rattle.logic.specs.declared.Rule.TheVariants.{Refl, Res, Fac, Par, Acy, Tra, Inc, Inh, Inp, Out, Sca, Eli}
-use Rattle.logic.specs.Syntax.{Term, Terms, nil, cons, Result, value, none, part, Atom, link, obj, arrows, method, Literal, lit, Clause}
+use Rattle.logic.specs.declared.Rule.TheVariants.{Refl, Res, Fac, Par, Acy, Tra, Inc, Inh, Inp, Out, Sca, Eli, Mer, Pro}
+use Rattle.logic.specs.Syntax.{Term, Terms, nil, cons, Result, value, none, Part, part, Parts, only, also}
+use Rattle.logic.specs.Syntax.{Atom, link, obj, arrows, method, Literal, lit, Clause}
 use Rattle.logic.specs.Equality.{link?}
 use Rattle.logic.specs.Fill.{fill_clause}
 use Rattle.logic.specs.Occurrence.{Search, past, found}
-use Rattle.logic.specs.Rules.{Agreement, signature, scalar, Placed, plus, minus, Row, Parent, filled, At, Infers}
-use Rattle.logic.specs.Judge.{Conclusion, misshapen, concludes, on_at, on_plus, on_minus, on_link, on_obj, on_result, on_method, on_placed, on_found, on_sub, on_signature, on_scalar, before, table_row, conclude_two, conclude, conclude_eli, conclude_res, conclude_acy, conclude_link, conclude_inh, conclude_inp, conclude_out, conclude_sca, conclude_fac, conclude_par}
+use Rattle.logic.specs.Rules.{Agreement, signature, scalar, Placed, PartAt, plus, minus, Row, Parent, filled, At, Infers}
+use Rattle.logic.specs.Judge.{Conclusion, misshapen, concludes, on_at, on_plus, on_minus, on_link, on_obj, on_result, on_method, on_placed, on_found, on_sub, on_signature, on_scalar, on_parts, on_molecule, on_part, before, table_row, conclude_two, conclude, conclude_eli, conclude_res, conclude_acy, conclude_link, conclude_inh, conclude_inp, conclude_out, conclude_sca, conclude_mer, conclude_fac, conclude_par, conclude_pro}
 
 -- Nothing misshapen concludes.
 not_misshapen : {g : Agreement} {c : Clause} {P : Type 0} → misshapen ≡ concludes g c → P
@@ -46,6 +47,12 @@ placed_finds : {s : Term} {k : ℕ} {q : Term} {ts us : Terms} (f : Term → Ter
 unfolding on_placed
 placed_finds f Placed.here = refl
 placed_finds f (Placed.there {t = t} p) = placed_finds (λ q us. f q (cons t us)) p
+
+part_finds : {k : ℕ} {q : Part} {ps : Parts} (f : Part → Conclusion) → PartAt k q ps → on_part k ps f ≡ f q
+unfolding on_part
+part_finds f PartAt.alone = refl
+part_finds f PartAt.here = refl
+part_finds f (PartAt.there p) = part_finds f p
 
 found_finds : (w : Search Literal) (f : Term → Literal → Conclusion) {s : Term} {l : Literal} → w ≡ found s l → on_found w f ≡ f s l
 unfolding on_found
@@ -79,13 +86,13 @@ module _ {g : Agreement} {d : Clause} {P : Type 0} where
       go (yes h) e = k t u (ap (λ v. link v t u) (sym h)) e
       go (no h) e = not_misshapen e
   link_found n (obj t) f e k = not_misshapen e
-  link_found n (arrows o p) f e k = not_misshapen e
+  link_found n (arrows o ps) f e k = not_misshapen e
 
   obj_found : (x : Atom) (f : Term → Conclusion) → on_obj x f ≡ concludes g d → ((t : Term) → x ≡ obj t → f t ≡ concludes g d → P) → P
   unfolding on_obj
   obj_found (link l t u) f e k = not_misshapen e
   obj_found (obj t) f e k = k t refl e
-  obj_found (arrows o p) f e k = not_misshapen e
+  obj_found (arrows o ps) f e k = not_misshapen e
 
   result_found : (r : Result) (f : Term → Conclusion) → on_result r f ≡ concludes g d → ((t : Term) → r ≡ value t → f t ≡ concludes g d → P) → P
   unfolding on_result
@@ -97,7 +104,8 @@ module _ {g : Agreement} {d : Clause} {P : Type 0} where
   unfolding on_method
   method_found p (link l t u) f e k = not_misshapen e
   method_found p (obj t) f e k = not_misshapen e
-  method_found p (arrows o (part a m ts r)) f e k = go (p a) (λ h. k a o m ts r h refl) e
+  method_found p (arrows o (also q qs)) f e k = not_misshapen e
+  method_found p (arrows o (only (part a m ts r))) f e k = go (p a) (λ h. k a o m ts r h refl) e
     where
       go : (b : Bool) → (T b → f a o m ts r ≡ concludes g d → P) → cond b (f a o m ts r) misshapen ≡ concludes g d → P
       go true k e = k tt e
@@ -109,6 +117,31 @@ module _ {g : Agreement} {d : Clause} {P : Type 0} where
   placed_found s n nil f e k = not_misshapen e
   placed_found s zero (cons t ts) f e k = k t (cons s ts) Placed.here e
   placed_found s (suc n) (cons t ts) f e k = placed_found s n ts (λ q us. f q (cons t us)) e (λ q us p. k q (cons t us) (Placed.there p))
+
+  parts_found : (l : Literal) (f : Term → Parts → Conclusion) → on_plus l (λ x. on_parts x f) ≡ concludes g d →
+      ((o : Term) (ps : Parts) → l ≡ plus (arrows o ps) → f o ps ≡ concludes g d → P) → P
+  unfolding on_plus on_parts
+  parts_found (lit Positive (arrows o ps)) f e k = k o ps refl e
+  parts_found (lit Positive (link l t u)) f e k = not_misshapen e
+  parts_found (lit Positive (obj t)) f e k = not_misshapen e
+  parts_found (lit Negative x) f e k = not_misshapen e
+
+  molecule_found : (l : Literal) (f : Term → Part → Parts → Conclusion) → on_plus l (λ x. on_molecule x f) ≡ concludes g d →
+      ((o : Term) (p : Part) (ps : Parts) → l ≡ plus (arrows o (also p ps)) → f o p ps ≡ concludes g d → P) → P
+  unfolding on_plus on_molecule
+  molecule_found (lit Positive (arrows o (also p ps))) f e k = k o p ps refl e
+  molecule_found (lit Positive (arrows o (only p))) f e k = not_misshapen e
+  molecule_found (lit Positive (link l t u)) f e k = not_misshapen e
+  molecule_found (lit Positive (obj t)) f e k = not_misshapen e
+  molecule_found (lit Negative x) f e k = not_misshapen e
+
+  part_found : (n : ℕ) (ps : Parts) (f : Part → Conclusion) → on_part n ps f ≡ concludes g d →
+      ((q : Part) → PartAt n q ps → f q ≡ concludes g d → P) → P
+  unfolding on_part
+  part_found zero (only p) f e k = k p PartAt.alone e
+  part_found (suc n) (only p) f e k = not_misshapen e
+  part_found zero (also p ps) f e k = k p PartAt.here e
+  part_found (suc n) (also p ps) f e k = part_found n ps f e (λ q w. k q (PartAt.there w))
 
   found_found : (w : Search Literal) (f : Term → Literal → Conclusion) → on_found w f ≡ concludes g d →
       ((s : Term) (l : Literal) → w ≡ found s l → f s l ≡ concludes g d → P) → P
@@ -140,7 +173,7 @@ two_finds A B {i} {j} {l} {m} {r} {r'} f p q =
 
 -- A row of the table is what its function gives.
 row_finds : {k : ℕ} {rule : Rule} {l m : Literal} {g : Agreement} {new : Clause} → Row k rule l m g new → table_row k rule l m ≡ concludes g new
-unfolding table_row conclude_res conclude_acy conclude_link conclude_inh conclude_inp conclude_out conclude_sca on_sub on_signature on_scalar on_plus on_minus on_result
+unfolding table_row conclude_res conclude_acy conclude_link conclude_inh conclude_inp conclude_out conclude_sca conclude_mer on_sub on_signature on_scalar on_parts on_plus on_minus on_result
 row_finds Row.res = refl
 row_finds Row.acy = link_finds Sub _ _ _ ∙ link_finds Sub _ _ _
 row_finds Row.tra = link_finds Sub _ _ _ ∙ link_finds Sub _ _ _
@@ -149,6 +182,7 @@ row_finds (Row.inh h) = method_finds signature _ _ _ _ _ _ h ∙ link_finds Sub 
 row_finds (Row.inp h w) = method_finds signature _ _ _ _ _ _ h ∙ (link_finds Sub _ _ _ ∙ placed_finds _ w)
 row_finds (Row.out h) = method_finds signature _ _ _ _ _ _ h ∙ link_finds Sub _ _ _
 row_finds (Row.sca h h') = method_finds scalar _ _ _ _ _ _ h ∙ method_finds scalar _ _ _ _ _ _ h'
+row_finds Row.mer = refl
 
 -- A rule with a row has two parents.
 row_two : (A B : Parent) (i j k : ℕ) {rule : Rule} {l m : Literal} {g : Agreement} {new : Clause} → Row k rule l m g new → conclude A B i j k rule ≡ conclude_two A B i j (table_row k rule)
@@ -161,6 +195,7 @@ row_two A B i j k (Row.inh h) = refl
 row_two A B i j k (Row.inp h w) = refl
 row_two A B i j k (Row.out h) = refl
 row_two A B i j k (Row.sca h h') = refl
+row_two A B i j k Row.mer = refl
 
 before_finds : {o : Conclusion} {g : Agreement} {new : Clause} (c : Clause) → o ≡ concludes g new → before o c ≡ concludes g (new ++ c)
 unfolding before
@@ -181,7 +216,7 @@ apart_positions i j x y n = go (eqb i j) (λ t. n (eqb→eq i j t))
 -- Whatever the table infers, the function concludes.
 pub infers→concludes : (A B : Parent) (i j k : ℕ) {rule : Rule} {g : Agreement} {c : Clause} →
     Infers A B i j k rule g c → conclude A B i j k rule ≡ concludes g c
-unfolding conclude conclude_fac conclude_par conclude_eli on_plus on_minus on_obj on_found
+unfolding conclude conclude_fac conclude_par conclude_eli conclude_pro on_plus on_minus on_obj on_molecule on_found
 infers→concludes A B i j k Infers.refl = refl
 infers→concludes A B i j k (Infers.fac⁺ p q n) = fac_finds A i j p q ∙ apart_positions i j _ _ n
 infers→concludes A B i j k (Infers.fac⁻ p q n) = fac_finds A i j p q ∙ apart_positions i j _ _ n
@@ -189,6 +224,7 @@ infers→concludes A B i j k (Infers.par {l = l} {r = r} p q e) =
     let f : Literal → Clause → Literal → Clause → Conclusion = λ l r m r'. before (conclude_par A.image k l m) (fill_clause A.image r ++ r') in
     at_finds (λ l r. on_at j (filled B) (f l r)) p ∙ (at_finds (f l r) q ∙ before_finds (fill_clause A.image r ++ _) (link_finds Eq _ _ _ ∙ found_finds _ _ e))
 infers→concludes A B i j k (Infers.eli p) = at_finds _ p
+infers→concludes A B i j k (Infers.pro p w) = at_finds (conclude_pro k) p ∙ part_finds _ w
 infers→concludes A B i j k (Infers.two {r = r} {r' = r'} p q w) =
     row_two A B i j k w ∙ (two_finds A B (table_row k _) p q ∙ before_finds (r ++ r') (row_finds w))
 
@@ -215,7 +251,7 @@ module _ {k : ℕ} {g : Agreement} {d : Clause} {l m : Literal} where
   row_found e₁ e₂ w e = rw (e₁, e₂, ← (concluded e).0, ← (concluded e).1) w
 
   pub table_found : (rule : Rule) → table_row k rule l m ≡ concludes g d → Row k rule l m g d
-  unfolding table_row conclude_res conclude_acy conclude_link conclude_inh conclude_inp conclude_out conclude_sca on_sub on_signature on_scalar
+  unfolding table_row conclude_res conclude_acy conclude_link conclude_inh conclude_inp conclude_out conclude_sca conclude_mer on_sub on_signature on_scalar
   table_found Refl e = not_misshapen e
   table_found Res e = minus_found l _ e (λ x e₁ h. plus_found m _ h (λ y e₂. row_found e₁ e₂ Row.res))
   table_found Fac e = not_misshapen e
@@ -230,6 +266,8 @@ module _ {k : ℕ} {g : Agreement} {d : Clause} {l m : Literal} where
   table_found Out e = valued_found signature l _ e (λ a o n ts r t e₁ h. sub_found Sub m _ h (λ r' s e₂. row_found e₁ e₂ (Row.out t)))
   table_found Sca e = valued_found scalar l _ e (λ a o n ts r t e₁ h. valued_found scalar m _ h (λ a' o' n' ts' r' t' e₂. row_found e₁ e₂ (Row.sca t t')))
   table_found Eli e = not_misshapen e
+  table_found Mer e = parts_found l _ e (λ o ps e₁ h. parts_found m _ h (λ o' qs e₂. row_found e₁ e₂ Row.mer))
+  table_found Pro e = not_misshapen e
 
 -- Whatever the function concludes, the table infers.
 module _ (A B : Parent) (i j k : ℕ) {g : Agreement} {d : Clause} where
@@ -254,7 +292,7 @@ module _ (A B : Parent) (i j k : ℕ) {g : Agreement} {d : Clause} where
 
 pub concludes→infers : (A B : Parent) (i j k : ℕ) (rule : Rule) {g : Agreement} {d : Clause} →
     conclude A B i j k rule ≡ concludes g d → Infers A B i j k rule g d
-unfolding conclude conclude_eli
+unfolding conclude conclude_eli conclude_pro
 concludes→infers A B i j k Refl e = rw (← (concluded e).0, ← (concluded e).1) Infers.refl
 concludes→infers A B i j k Res e = two_found A B i j k Res e
 concludes→infers A B i j k Fac e = at_found i (filled A) _ e (λ l r p h. at_found j (filled A) _ h (λ m r' q. fac_found A B i j k l m r r' p q))
@@ -266,6 +304,10 @@ concludes→infers A B i j k Inh e = two_found A B i j k Inh e
 concludes→infers A B i j k Inp e = two_found A B i j k Inp e
 concludes→infers A B i j k Out e = two_found A B i j k Out e
 concludes→infers A B i j k Sca e = two_found A B i j k Sca e
+concludes→infers A B i j k Mer e = two_found A B i j k Mer e
+concludes→infers A B i j k Pro e =
+    at_found i (filled A) _ e (λ l r p h. molecule_found l _ h (λ o q qs e₁ h₂. part_found k (also q qs) _ h₂ (λ q' w e₃.
+    rw (← (concluded e₃).0, ← (concluded e₃).1) (Infers.pro (rw e₁ at p) w))))
 concludes→infers A B i j k Eli e =
     at_found i (filled A) _ e (λ l r p h. minus_found l _ h (λ x e₁ h₂. obj_found x _ h₂ (λ t e₂ e₃.
     rw (← (concluded e₃).0, ← (concluded e₃).1) (Infers.eli (rw (e₁, e₂) at p)))))

@@ -1,7 +1,8 @@
 -- What holds of each variable and each applied symbol of a term, an atom, a clause (T7, T18, V16); ground terms (H1); the highest
 -- variable (R3).
 use Rattle.std.specs.Prelude.{ℕ, zero, suc, max, Bool, true, false, ◌&&◌, not, List, [], ◌∷◌, eqb}
-use Rattle.logic.specs.Syntax.{Term, var, app, Terms, nil, cons, Result, value, none, Part, part, Atom, link, obj, arrows, lit, Clause, may_be_none}
+use Rattle.logic.specs.Syntax.{Term, var, app, Terms, nil, cons, Result, value, none, may_be_none}
+use Rattle.logic.specs.Syntax.{Part, part, Parts, only, also, Atom, link, obj, arrows, lit, Clause}
 use Rattle.logic.specs.Terms.{count, terms_of}
 
 -- T11: every variable N meets `p N`, and every applied symbol N with n terms meets `s N n`. T13, T16: so in an atom, in a clause.
@@ -50,10 +51,14 @@ allowed_result b none = b
 unfoldable pub allowed_part : Part → Bool
 allowed_part (part a m ts r) = allowed_result (may_be_none a) r
 
+unfoldable pub allowed_parts : Parts → Bool
+allowed_parts (only p) = allowed_part p
+allowed_parts (also p ps) = allowed_part p && allowed_parts ps
+
 unfoldable pub allowed : Atom → Bool
 allowed (link l t u) = true
 allowed (obj t) = true
-allowed (arrows o p) = allowed_part p
+allowed (arrows o ps) = allowed_parts ps
 
 unfoldable pub allowed_clause : Clause → Bool
 allowed_clause [] = true
@@ -63,8 +68,18 @@ allowed_clause (lit g x ∷ c) = allowed x && allowed_clause c
 unfoldable pub atom_over : (ℕ → Bool) → (ℕ → ℕ → Bool) → Atom → Bool
 atom_over p s x = allowed x && each_atom p s x
 
+-- H11: "A set holds no molecule."
+unfoldable pub one_part : Parts → Bool
+one_part (only p) = true
+one_part (also p ps) = false
+
+unfoldable pub no_molecule : Atom → Bool
+no_molecule (link l t u) = true
+no_molecule (obj t) = true
+no_molecule (arrows o ps) = one_part ps
+
 unfoldable pub ground_atom : List ℕ → Atom → Bool
-ground_atom table x = atom_over never (declares table) x
+ground_atom table x = no_molecule x && atom_over never (declares table) x
 
 unfoldable pub over_clause : List ℕ → Clause → Bool
 over_clause table c = allowed_clause c && each_clause any (declares table) c

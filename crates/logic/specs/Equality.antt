@@ -11,8 +11,8 @@ use Rattle.logic.specs.declared.Link.{Link}
 use Rattle.logic.specs.declared.Link.TheVariants.{Eq, Mem, Sub}
 use Rattle.logic.specs.declared.Arrow.{Arrow}
 use Rattle.logic.specs.declared.Arrow.TheVariants.{Sv, Si, Mv, Mi, St, Mt}
-use Rattle.logic.specs.Syntax.{Term-discrete, Terms, Terms-discrete, Result-discrete}
-use Rattle.logic.specs.Syntax.{Part, Part-discrete, Atom, Atom-discrete, Literal, Literal-discrete, Clause}
+use Rattle.logic.specs.Syntax.{Term, Term-discrete, Terms, Terms-discrete, Result-discrete}
+use Rattle.logic.specs.Syntax.{Part, Part-discrete, Parts, Parts-discrete, Atom, Atom-discrete, Literal, Literal-discrete, Clause}
 use Rattle.logic.specs.Rules.{Call, Call-discrete}
 
 unfoldable pub sign_number : Sign → ℕ
@@ -83,17 +83,23 @@ link? a b = by_number link_number nth_link (λ l. link_back l) a b (ℕ_discrete
 unfoldable pub arrow? : (a b : Arrow) → Dec (a ≡ b)
 arrow? a b = by_number arrow_number nth_arrow (λ l. arrow_back l) a b (ℕ_discrete (arrow_number a) (arrow_number b))
 
+unfoldable pub term? : (t u : Term) → Dec (t ≡ u)
+term? = Term-discrete ℕ_discrete
+
 unfoldable pub terms? : (ts us : Terms) → Dec (ts ≡ us)
 terms? = Terms-discrete ℕ_discrete
 
 unfoldable pub part? : (p q : Part) → Dec (p ≡ q)
-part? = Part-discrete arrow? (Term-discrete ℕ_discrete) terms? (Result-discrete (Term-discrete ℕ_discrete))
+part? = Part-discrete arrow? term? terms? (Result-discrete term?)
+
+unfoldable pub parts? : (ps qs : Parts) → Dec (ps ≡ qs)
+parts? = Parts-discrete part?
 
 unfoldable pub atom? : (x y : Atom) → Dec (x ≡ y)
-atom? = Atom-discrete link? (Term-discrete ℕ_discrete) part?
+atom? = Atom-discrete link? term? parts?
 
 unfoldable pub call? : (x y : Call) → Dec (x ≡ y)
-call? = Call-discrete arrow? (Term-discrete ℕ_discrete) terms?
+call? = Call-discrete arrow? term? terms?
 
 unfoldable pub literal? : (l m : Literal) → Dec (l ≡ m)
 literal? = Literal-discrete sign? atom?

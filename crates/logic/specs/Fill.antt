@@ -1,6 +1,7 @@
 -- Filling (R2, D2, H10): a term stands in for each variable.
 use Rattle.std.specs.Prelude.{ℕ, map}
-use Rattle.logic.specs.Syntax.{Term, var, app, Terms, nil, cons, Result, value, none, Part, part, Atom, link, obj, arrows, Literal, lit, Clause}
+use Rattle.logic.specs.Syntax.{Term, var, app, Terms, nil, cons, Result, value, none}
+use Rattle.logic.specs.Syntax.{Part, part, Parts, only, also, Atom, link, obj, arrows, Literal, lit, Clause}
 use Rattle.logic.specs.Terms.{entry_or}
 
 -- D2, "one substitution": it gives the term for each variable.
@@ -28,10 +29,14 @@ fill_result σ none = none
 unfoldable pub fill_part : Substitution → Part → Part
 fill_part σ (part a m ts r) = part a (fill σ m) (fills σ ts) (fill_result σ r)
 
+unfoldable pub fill_parts : Substitution → Parts → Parts
+fill_parts σ (only p) = only (fill_part σ p)
+fill_parts σ (also p ps) = also (fill_part σ p) (fill_parts σ ps)
+
 unfoldable pub fill_atom : Substitution → Atom → Atom
 fill_atom σ (link l t u) = link l (fill σ t) (fill σ u)
 fill_atom σ (obj t) = obj (fill σ t)
-fill_atom σ (arrows o p) = arrows (fill σ o) (fill_part σ p)
+fill_atom σ (arrows o ps) = arrows (fill σ o) (fill_parts σ ps)
 
 unfoldable pub fill_literal : Substitution → Literal → Literal
 fill_literal σ (lit g x) = lit g (fill_atom σ x)

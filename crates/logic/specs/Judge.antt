@@ -1,6 +1,6 @@
 -- Nothing in this file has to be believed: the rule table as a function, and checks 7 to 11 computed by it. That they are computed right is
 -- proved: `passed_exactly` and `failed_exactly` (proofs/Steps), over `infers→concludes` and `concludes→infers` (proofs/Table).
-use Rattle.std.specs.Prelude.{ℕ, zero, suc, Bool, cond, List, [], ◌∷◌, ◌++◌, ◌≡◌, eqb, Ok, Err}
+use Rattle.std.specs.Prelude.{ℕ, zero, suc, Bool, cond, List, [], ◌∷◌, ◌++◌, ◌⊎◌, eqb, Ok, Err}
 use Rattle.std.proofs.Common.{inl, inr, ⊎_elim}
 use Rattle.std.proofs.Math.Logic.{ite}
 use Rattle.logic.specs.declared.Sign.TheVariants.{Positive, Negative}
@@ -8,14 +8,15 @@ use Rattle.logic.specs.declared.Link.{Link}
 use Rattle.logic.specs.declared.Link.TheVariants.{Eq, Mem, Sub}
 use Rattle.logic.specs.declared.Arrow.{Arrow}
 use Rattle.logic.specs.declared.Rule.{Rule}
-use Rattle.logic.specs.declared.Rule.TheVariants.{Refl, Res, Fac, Par, Acy, Tra, Inc, Inh, Inp, Out, Sca, Eli}
+use Rattle.logic.specs.declared.Rule.TheVariants.{Refl, Res, Fac, Par, Acy, Tra, Inc, Inh, Inp, Out, Sca, Eli, Mer, Pro}
 use Rattle.logic.specs.declared.Check.{Check}
-use Rattle.logic.specs.Syntax.{Term, Terms, nil, cons, Result, value, none, part, Atom, link, obj, arrows, method, Literal, lit, Clause, Step}
-use Rattle.logic.specs.Equality.{link?, terms?, atom?, call?, clause?}
+use Rattle.logic.specs.Syntax.{Term, Terms, nil, cons, Result, value, none, Part, part, Parts, only, also}
+use Rattle.logic.specs.Syntax.{Atom, link, obj, arrows, method, Literal, lit, Clause, Step}
+use Rattle.logic.specs.Equality.{link?, term?, terms?, part?, atom?, call?, clause?}
 use Rattle.logic.specs.Fill.{Substitution, fill_clause}
 use Rattle.logic.specs.Occurrence.{Search, past, found, find_literal}
-use Rattle.logic.specs.Rules.{bare, Covers, Agreement, always, equal, covering, call, alike}
-use Rattle.logic.specs.Rules.{Holds, signature, scalar, plus, one, Parent, filled}
+use Rattle.logic.specs.Rules.{bare, bare_part, Covers, CoversPart, SomeCovers, EachCovered, Fits, Agreement, always, equal, fitting, call, alike}
+use Rattle.logic.specs.Rules.{Holds, signature, scalar, join_parts, plus, one, Parent, filled}
 use Rattle.logic.specs.StepChecks.{parent_a, parent_b, parents_below, numbers_right, Checked}
 
 -- The rule table as a function: a literal, number or result is not as the shape says, or the row's agreement and clause.
@@ -40,12 +41,12 @@ on_minus (lit Negative x) f = f x
 unfoldable pub on_link : Link → Atom → (Term → Term → Conclusion) → Conclusion
 on_link k (link l t u) f = ite (link? k l) (f t u) misshapen
 on_link k (obj t) f = misshapen
-on_link k (arrows o p) f = misshapen
+on_link k (arrows o ps) f = misshapen
 
 unfoldable pub on_obj : Atom → (Term → Conclusion) → Conclusion
 on_obj (link l t u) f = misshapen
 on_obj (obj t) f = f t
-on_obj (arrows o p) f = misshapen
+on_obj (arrows o ps) f = misshapen
 
 unfoldable pub on_result : Result → (Term → Conclusion) → Conclusion
 on_result (value t) f = f t
@@ -55,7 +56,26 @@ on_result none f = misshapen
 unfoldable pub on_method : (Arrow → Bool) → Atom → (Arrow → Term → Term → Terms → Result → Conclusion) → Conclusion
 on_method p (link l t u) f = misshapen
 on_method p (obj t) f = misshapen
-on_method p (arrows o (part a m ts r)) f = cond (p a) (f a o m ts r) misshapen
+on_method p (arrows o (only (part a m ts r))) f = cond (p a) (f a o m ts r) misshapen
+on_method p (arrows o (also q qs)) f = misshapen
+
+-- An arrow atom or a molecule; a molecule alone; part k.
+unfoldable pub on_parts : Atom → (Term → Parts → Conclusion) → Conclusion
+on_parts (link l t u) f = misshapen
+on_parts (obj t) f = misshapen
+on_parts (arrows o ps) f = f o ps
+
+unfoldable pub on_molecule : Atom → (Term → Part → Parts → Conclusion) → Conclusion
+on_molecule (link l t u) f = misshapen
+on_molecule (obj t) f = misshapen
+on_molecule (arrows o (only p)) f = misshapen
+on_molecule (arrows o (also p ps)) f = f o p ps
+
+unfoldable pub on_part : ℕ → Parts → (Part → Conclusion) → Conclusion
+on_part zero (only p) f = f p
+on_part (suc k) (only p) f = misshapen
+on_part zero (also p ps) f = f p
+on_part (suc k) (also p ps) f = on_part k ps f
 
 -- Argument k, and the arguments with s in its place.
 unfoldable pub on_placed : Term → ℕ → Terms → (Term → Terms → Conclusion) → Conclusion
@@ -81,7 +101,7 @@ unfoldable pub on_sub : Literal → (Term → Term → Conclusion) → Conclusio
 on_sub l f = on_plus l (λ y. on_link Sub y f)
 
 unfoldable pub conclude_res : Literal → Literal → Conclusion
-conclude_res l m = on_minus l (λ x. on_plus m (λ y. concludes (covering y x) []))
+conclude_res l m = on_minus l (λ x. on_plus m (λ y. concludes (fitting x y) []))
 
 unfoldable pub conclude_acy : Literal → Literal → Conclusion
 conclude_acy l m = on_sub l (λ p q. on_sub m (λ q' p'. with_new (equal (cons p (one q)) (cons p' (one q'))) (link Eq p q)))
@@ -111,6 +131,10 @@ unfoldable pub conclude_sca : Literal → Literal → Conclusion
 conclude_sca l m =
     on_scalar l (λ a o n ts r. on_scalar m (λ a' o' n' ts' r'. with_new (alike (call a o n ts) (call a' o' n' ts')) (link Eq r r')))
 
+unfoldable pub conclude_mer : Literal → Literal → Conclusion
+conclude_mer l m =
+    on_plus l (λ x. on_parts x (λ o ps. on_plus m (λ y. on_parts y (λ o' qs. with_new (equal (one o) (one o')) (arrows o (join_parts ps qs))))))
+
 -- The rows of the rules with two parents, par apart; the other rules have none here.
 unfoldable pub table_row : ℕ → Rule → Literal → Literal → Conclusion
 table_row k Refl l m = misshapen
@@ -125,6 +149,8 @@ table_row k Inp l m = conclude_inp k l m
 table_row k Out l m = conclude_out l m
 table_row k Sca l m = conclude_sca l m
 table_row k Eli l m = misshapen
+table_row k Mer l m = conclude_mer l m
+table_row k Pro l m = misshapen
 
 unfoldable pub conclude_two : Parent → Parent → ℕ → ℕ → (Literal → Literal → Conclusion) → Conclusion
 conclude_two A B i j f = on_at i (filled A) (λ l r. on_at j (filled B) (λ m r'. before (f l m) (r ++ r')))
@@ -136,11 +162,15 @@ conclude_par σ k l m =
 
 -- fac, on the literals at I and J, each with A's other literals.
 unfoldable pub conclude_fac : ℕ → ℕ → Literal → Clause → Literal → Clause → Conclusion
-conclude_fac i j (lit Positive x) r m r' = cond (eqb i j) misshapen (on_plus m (λ y. concludes (covering y x) r'))
-conclude_fac i j (lit Negative x) r m r' = cond (eqb i j) misshapen (on_minus m (λ y. concludes (covering y x) r))
+conclude_fac i j (lit Positive x) r m r' = cond (eqb i j) misshapen (on_plus m (λ y. concludes (fitting x y) r'))
+conclude_fac i j (lit Negative x) r m r' = cond (eqb i j) misshapen (on_minus m (λ y. concludes (fitting x y) r))
 
 unfoldable pub conclude_eli : Literal → Clause → Conclusion
 conclude_eli l r = on_minus l (λ x. on_obj x (λ p. concludes always r))
+
+unfoldable pub conclude_pro : ℕ → Literal → Clause → Conclusion
+conclude_pro k l r =
+    on_plus l (λ x. on_molecule x (λ o p ps. on_part k (also p ps) (λ q. concludes always (plus (arrows o (only q)) ∷ r))))
 
 unfoldable pub conclude : Parent → Parent → ℕ → ℕ → ℕ → Rule → Conclusion
 conclude A B i j k Refl = with_new always (link Sub (A.image 0) (A.image 0))
@@ -156,23 +186,55 @@ conclude A B i j k Inp = conclude_two A B i j (table_row k Inp)
 conclude A B i j k Out = conclude_two A B i j (table_row k Out)
 conclude A B i j k Sca = conclude_two A B i j (table_row k Sca)
 conclude A B i j k Eli = on_at i (filled A) conclude_eli
+conclude A B i j k Mer = conclude_two A B i j (table_row k Mer)
+conclude A B i j k Pro = on_at i (filled A) (conclude_pro k)
 
 -- What the rule table says of a step.
 unfoldable pub conclusion : List Clause → Step → Conclusion
 conclusion cs s = conclude (parent_a cs s) (parent_b cs s) s.i s.j s.k s.rule
 
 -- Whether an agreement holds is decided.
-unfoldable pub covers? : (x y : Atom) → Dec (x ≡ y) → Dec (bare x ≡ y) → Dec (Covers x y)
+unfoldable pub either? : {A B : Type 0} → Dec A → Dec B → Dec (A ⊎ B)
+either? (yes a) d = yes (inl a)
+either? (no n) (yes b) = yes (inr b)
+either? (no n) (no m) = no (⊎_elim n m)
+
+unfoldable pub both? : {A B : Type 0} → Dec A → Dec B → Dec (A × B)
+both? (yes a) (yes b) = yes (a, b)
+both? (yes a) (no m) = no (λ w. m w.1)
+both? (no n) d = no (λ w. n w.0)
+
+unfoldable pub covers? : (x y : Atom) → Dec (Covers x y)
 unfolding Covers
-covers? x y (yes e) d = yes (inl e)
-covers? x y (no e) (yes b) = yes (inr b)
-covers? x y (no e) (no b) = no (⊎_elim e b)
+covers? x y = either? (atom? x y) (atom? (bare x) y)
+
+unfoldable pub covers_part? : (p q : Part) → Dec (CoversPart p q)
+unfolding CoversPart
+covers_part? p q = either? (part? p q) (part? (bare_part p) q)
+
+unfoldable pub some_covers? : (ps : Parts) (q : Part) → Dec (SomeCovers ps q)
+unfolding SomeCovers
+some_covers? (only p) q = covers_part? p q
+some_covers? (also p ps) q = either? (covers_part? p q) (some_covers? ps q)
+
+unfoldable pub each_covered? : (ps qs : Parts) → Dec (EachCovered ps qs)
+unfolding EachCovered
+each_covered? ps (only q) = some_covers? ps q
+each_covered? ps (also q qs) = both? (some_covers? ps q) (each_covered? ps qs)
+
+unfoldable pub fits? : (x y : Atom) → Dec (Fits x y)
+unfolding Fits
+fits? (arrows o qs) (arrows o' ps) = both? (term? o o') (each_covered? ps qs)
+fits? (arrows o qs) (link l t u) = covers? (link l t u) (arrows o qs)
+fits? (arrows o qs) (obj t) = covers? (obj t) (arrows o qs)
+fits? (link l t u) y = covers? y (link l t u)
+fits? (obj t) y = covers? y (obj t)
 
 unfoldable pub holds? : (g : Agreement) → Dec (Holds g)
 unfolding Holds
 holds? always = yes tt
 holds? (equal ts us) = terms? ts us
-holds? (covering x y) = covers? x y (atom? x y) (atom? (bare x) y)
+holds? (fitting x y) = fits? x y
 holds? (alike x y) = call? x y
 
 -- Checks 7 to 11 of a step, in order: the first that fails, if any.

@@ -1,7 +1,7 @@
 -- TEXT-FORM, "H-structures" (H1 to H8), satisfaction (H9) and ground instances (H10).
 use Rattle.std.specs.Prelude.{ℕ, List, [], ◌∷◌, ◌⊎◌, T}
 use Rattle.logic.specs.Syntax.{Positive, Negative, Eq, Mem, Sub, Arrow}
-use Rattle.logic.specs.Syntax.{Term, Terms, Result, value, Atom, link, obj, method, Literal, lit, Clause}
+use Rattle.logic.specs.Syntax.{Term, Terms, Result, value, Parts, only, also, Atom, link, obj, arrows, method, Literal, lit, Clause}
 use Rattle.logic.specs.Each.{ground_term, ground_atom}
 use Rattle.logic.specs.Fill.{Substitution, fill_clause}
 use Rattle.logic.specs.Occurrence.{ReplacedAtom}
@@ -37,11 +37,21 @@ pub record Structure (table : List ℕ) (holds : Atom → Type 0) : Type 0 where
   -- H8: "An mv, mi, st or mt atom with a term result gives the same atom with none." `bare` leaves other atoms as they are.
   pub none_holds : {x : Atom} → holds x → holds (bare x)
 
--- H9: "A set satisfies a ground clause if the atom of one of its positive literals is in the set, or the atom of one of its negative
+-- H11: "A molecule is true in a set if all its atoms are in it, its object with each of its parts; any other atom is, if it is in it."
+unfoldable pub AllIn : (Atom → Type 0) → Term → Parts → Type 0
+AllIn S o (only p) = S (arrows o (only p))
+AllIn S o (also p ps) = S (arrows o (only p)) × AllIn S o ps
+
+unfoldable pub TrueIn : (Atom → Type 0) → Atom → Type 0
+TrueIn S (link l t u) = S (link l t u)
+TrueIn S (obj t) = S (obj t)
+TrueIn S (arrows o ps) = AllIn S o ps
+
+-- H9: "A set satisfies a ground clause if the atom of one of its positive literals is true in the set, or the atom of one of its negative
 -- literals isn't."
 unfoldable pub SatisfiesLiteral : (Atom → Type 0) → Literal → Type 0
-SatisfiesLiteral S (lit Positive x) = S x
-SatisfiesLiteral S (lit Negative x) = S x → ⊥
+SatisfiesLiteral S (lit Positive x) = TrueIn S x
+SatisfiesLiteral S (lit Negative x) = TrueIn S x → ⊥
 
 unfoldable pub SomeLiteral : (Atom → Type 0) → Clause → Type 0
 SomeLiteral S [] = ⊥

@@ -8,7 +8,7 @@ pub use Rattle.logic.specs.declared.Link.TheVariants.{Eq, Mem, Sub}
 pub use Rattle.logic.specs.declared.Arrow.{Arrow}
 pub use Rattle.logic.specs.declared.Arrow.TheVariants.{Sv, Si, Mv, Mi, St, Mt}
 pub use Rattle.logic.specs.declared.Rule.{Rule}
-pub use Rattle.logic.specs.declared.Rule.TheVariants.{Refl, Res, Fac, Par, Acy, Tra, Inc, Inh, Inp, Out, Sca, Eli}
+pub use Rattle.logic.specs.declared.Rule.TheVariants.{Refl, Res, Fac, Par, Acy, Tra, Inc, Inh, Inp, Out, Sca, Eli, Mer, Pro}
 
 -- T11: "`(v N)` is variable N. `(f N TERM ...)` is symbol N applied to the terms."
 mutual
@@ -38,7 +38,7 @@ may_be_none St = true
 may_be_none Mt = true
 
 -- T13: "`(ARROW O M (T ...) R)` has the object O, the method M, the arguments T ..., perhaps none at all, and the result R." Its part is
--- what it says of O: all but O.
+-- what it says of O: all but O. T21: "a PART is `(ARROW M (T ...) R)`".
 pub data Part : Type 0 where
   part : Arrow → Term → Terms → Result → Part
   deriving Discrete as Part-discrete
@@ -47,15 +47,23 @@ pub data Part : Type 0 where
 abbrev pub arrow_of : Part → Arrow
 arrow_of (part a m ts r) = a
 
--- T13: "`(eq T U)` is equality; `(mem T U)` is T : U; `(sub T U)` is T :: U; `(obj T)` is T[]"; an arrow atom is its object and its part.
+-- T21: "`(mol T PART PART ...)`, a molecule, has the object T and two parts or more": an arrow atom has only one, a molecule has also others.
+pub data Parts : Type 0 where
+  only : Part → Parts
+  also : Part → Parts → Parts
+  deriving Discrete as Parts-discrete
+
+-- T13: "`(eq T U)` is equality; `(mem T U)` is T : U; `(sub T U)` is T :: U; `(obj T)` is T[]"; an arrow atom or a molecule is its object
+-- and its parts.
 pub data Atom : Type 0 where
   link : Link → Term → Term → Atom
   obj : Term → Atom
-  arrows : Term → Part → Atom
+  arrows : Term → Parts → Atom
   deriving Discrete as Atom-discrete
 
+-- T13: `(ARROW O M (T ...) R)`.
 abbrev pub method : Arrow → Term → Term → Terms → Result → Atom
-method a o m ts r = arrows o (part a m ts r)
+method a o m ts r = arrows o (only (part a m ts r))
 
 -- T16: "`(+ ATOM)` is a positive literal, `(- ATOM)` a negative one."
 pub data Literal : Type 0 where

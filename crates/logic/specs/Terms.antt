@@ -1,6 +1,6 @@
 -- Lists of terms (T11, T13, R2), and the terms of an atom from left to right (T13, R20).
 use Rattle.std.specs.Prelude.{ℕ, zero, suc}
-use Rattle.logic.specs.Syntax.{Term, app, Terms, nil, cons, Result, value, none, Part, part, Atom, link, obj, arrows}
+use Rattle.logic.specs.Syntax.{Term, app, Terms, nil, cons, Result, value, none, Part, part, Parts, only, also, Atom, link, obj, arrows}
 
 -- How many terms: of a symbol (T7), of a method (T18), of a list (R3).
 unfoldable pub count : Terms → ℕ
@@ -28,10 +28,15 @@ result_terms none = nil
 unfoldable pub part_terms : Part → Terms
 part_terms (part a m ts r) = cons m (join ts (result_terms r))
 
+unfoldable pub parts_terms : Parts → Terms
+parts_terms (only p) = part_terms p
+parts_terms (also p ps) = join (part_terms p) (parts_terms ps)
+
+-- R20, of a molecule: "the object, then part by part the method, the arguments, the result".
 unfoldable pub terms_of : Atom → Terms
 terms_of (link l t u) = cons t (cons u nil)
 terms_of (obj t) = cons t nil
-terms_of (arrows o p) = cons o (part_terms p)
+terms_of (arrows o ps) = cons o (parts_terms ps)
 
 -- The first n terms, and the terms behind those: the arguments, and the result after them (T13).
 unfoldable pub front : ℕ → Terms → Terms
@@ -57,7 +62,13 @@ with_result none us = none
 unfoldable pub with_part_terms : Part → Terms → Part
 with_part_terms (part a m ts r) us = part a (nth us 0) (front (count ts) (rest 1 us)) (with_result r (rest (count ts) (rest 1 us)))
 
+-- The first part takes as many as it has, the others those behind them.
+unfoldable pub with_parts_terms : Parts → Terms → Parts
+with_parts_terms (only p) us = only (with_part_terms p us)
+with_parts_terms (also p ps) us =
+    let n = count (part_terms p) in also (with_part_terms p (front n us)) (with_parts_terms ps (rest n us))
+
 unfoldable pub with_terms : Atom → Terms → Atom
 with_terms (link l t u) us = link l (nth us 0) (nth us 1)
 with_terms (obj t) us = obj (nth us 0)
-with_terms (arrows o p) us = arrows (nth us 0) (with_part_terms p (rest 1 us))
+with_terms (arrows o ps) us = arrows (nth us 0) (with_parts_terms ps (rest 1 us))

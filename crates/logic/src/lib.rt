@@ -26,7 +26,7 @@ pub enum Arrow {
     Mt,
 }
 
-// The twelve rules (T10), in the order of the rule table (R8 to R19).
+// The fourteen rules (T10), in the order of the rule table (R8 to R19, R25, R26).
 #[derive(Clone, Copy, Debug, PartialEq, Eq)]
 pub enum Rule {
     Refl,
@@ -41,6 +41,8 @@ pub enum Rule {
     Out,
     Sca,
     Eli,
+    Mer,
+    Pro,
 }
 
 // The checks of a text, in the order in which they are made (V11 to V21).

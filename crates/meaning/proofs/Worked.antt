@@ -7,9 +7,9 @@ use mathlib.Core.Path.{◌≡◌, refl, sym, subst₂}
 use lib.Dec.{T}
 use Rattle.logic.specs.Syntax.{Atom, Clause}
 use Rattle.logic.specs.Terms.{count, terms_of}
-use Rattle.logic.specs.Each.{each_term, each_atom, declares, never, allowed, ground_term, ground_atom, atom_over}
+use Rattle.logic.specs.Each.{each_term, each_atom, declares, never, allowed, no_molecule, ground_term, ground_atom, atom_over}
 use Rattle.logic.specs.Fill.{fill, fill_atom, fill_literal, fill_clause}
-use Rattle.logic.specs.Structure.{Structure, SatisfiesLiteral, SomeLiteral, Satisfies, Grounds, Models, ModelsAll}
+use Rattle.logic.specs.Structure.{Structure, TrueIn, SatisfiesLiteral, SomeLiteral, Satisfies, Grounds, Models, ModelsAll}
 use Rattle.logic.proofs.Both.{both}
 use Rattle.logic.proofs.Every.{everything}
 use Rattle.text.specs.declared.Figures.{Figures}
@@ -38,7 +38,7 @@ abbrev Ground : List ℕ → Atom → Type 0
 Ground table x = T (ground_atom table x)
 
 every_models : ModelsAll (0 ∷ []) (Ground (0 ∷ [])) modelled
-unfolding ModelsAll Models Satisfies SomeLiteral SatisfiesLiteral fill_clause fill_literal fill_atom fill ground_atom atom_over allowed each_atom each_term terms_of Grounds ground_term count declares
+unfolding ModelsAll Models Satisfies SomeLiteral SatisfiesLiteral TrueIn no_molecule fill_clause fill_literal fill_atom fill ground_atom atom_over allowed each_atom each_term terms_of Grounds ground_term count declares
 every_models = (λ γ g n. n (inl (both (each_term never (declares (0 ∷ [])) (γ 0)) true (g 0) tt)), tt)
 
 abbrev Modelled : List ℕ → List Clause → Type 0

@@ -5,7 +5,7 @@ use Rattle.logic.specs.declared.Link.{Link}
 use Rattle.logic.specs.declared.Arrow.{Arrow}
 use Rattle.text.specs.Words.{bytes, link_word, arrow_word}
 use Rattle.text.specs.Read.{links, arrow_table, Parsed, bad, got, Reader, and_then, return, strip, skip, Branch, ◌⇒◌, or_else, one_of, each}
-use Rattle.text.specs.Read.{read_link, read_object, read_method, read_kind}
+use Rattle.text.specs.Read.{read_link, read_object, read_molecule, read_method, read_kind}
 use Rattle.text.proofs.Chain.{first_word, later_word}
 
 -- The words of a table in front of other branches, and as the last ones.
@@ -47,19 +47,26 @@ module _ (d : ℕ) (s : List ℕ) where
   unfolding read_kind
   a_link e = table_pick link_word (read_link d) links _ s ∙ rw (← e)
 
-  no_link : bad ≡ the_links → read_kind d s ≡ one_of (("obj" ⇒ read_object d) ∷ each arrow_word (read_method d) arrow_table) s
+  no_link : bad ≡ the_links
+      → read_kind d s ≡ one_of (("obj" ⇒ read_object d) ∷ ("mol" ⇒ read_molecule d) ∷ each arrow_word (read_method d) arrow_table) s
   unfolding read_kind
   no_link e = table_pick link_word (read_link d) links _ s ∙ rw (← e)
 
   pub an_object : {rest : List ℕ} → bad ≡ the_links → got tt rest ≡ strip (bytes "obj") s → read_kind d s ≡ read_object d rest
   an_object e f = no_link e ∙ first_word "obj" _ _ s (sym f)
 
-  no_object : bad ≡ the_links → bad ≡ strip (bytes "obj") s → read_kind d s ≡ and_then the_arrows (read_method d)
-  no_object e f = no_link e ∙ later_word "obj" _ _ s (sym f) ∙ table_last arrow_word (read_method d) arrow_table s
+  module _ (e : bad ≡ the_links) (f : bad ≡ strip (bytes "obj") s) where
+    no_object : read_kind d s ≡ one_of (("mol" ⇒ read_molecule d) ∷ each arrow_word (read_method d) arrow_table) s
+    no_object = no_link e ∙ later_word "obj" _ _ s (sym f)
 
-  pub an_arrow : {a : Arrow} {rest : List ℕ} → bad ≡ the_links → bad ≡ strip (bytes "obj") s → got a rest ≡ the_arrows
-      → read_kind d s ≡ read_method d a rest
-  an_arrow e f h = no_object e f ∙ rw (← h)
+    pub a_molecule : {rest : List ℕ} → got tt rest ≡ strip (bytes "mol") s → read_kind d s ≡ read_molecule d rest
+    a_molecule g = no_object ∙ first_word "mol" _ _ s (sym g)
 
-  pub no_kind : bad ≡ the_links → bad ≡ strip (bytes "obj") s → bad ≡ the_arrows → read_kind d s ≡ bad
-  no_kind e f h = no_object e f ∙ rw (← h)
+    no_molecule : bad ≡ strip (bytes "mol") s → read_kind d s ≡ and_then the_arrows (read_method d)
+    no_molecule g = no_object ∙ later_word "mol" _ _ s (sym g) ∙ table_last arrow_word (read_method d) arrow_table s
+
+    pub an_arrow : {a : Arrow} {rest : List ℕ} → bad ≡ strip (bytes "mol") s → got a rest ≡ the_arrows → read_kind d s ≡ read_method d a rest
+    an_arrow g h = no_molecule g ∙ rw (← h)
+
+    pub no_kind : bad ≡ strip (bytes "mol") s → bad ≡ the_arrows → read_kind d s ≡ bad
+    no_kind g h = no_molecule g ∙ rw (← h)

@@ -8,11 +8,11 @@ use native.Mathlib.Numerals.{add-one}
 use borrow.Author.Tests.{le-leb}
 use lib.Dec.{leb, ltb, eqb, leb→le, le→leb, eqb-suc-zero}
 use Rattle.std.proofs.lemmas.Bool.Decides.{nat_tests}
-use Rattle.logic.specs.Syntax.{Term, var, app, Terms, nil, cons, Part, part, Atom, link, obj, arrows, lit, Clause}
-use Rattle.logic.specs.Terms.{count, join, result_terms, part_terms, terms_of}
+use Rattle.logic.specs.Syntax.{Term, var, app, Terms, nil, cons, Part, part, Parts, only, also, Atom, link, obj, arrows, lit, Clause}
+use Rattle.logic.specs.Terms.{count, join, result_terms, part_terms, parts_terms, terms_of}
 use Rattle.logic.specs.Each.{any, declares, each_term, each_terms, each_atom, each_clause, term_width, terms_width, width}
 use Rattle.logic.specs.declared.Sign.{Sign}
-use Rattle.reader.specs.Summary.{Taken, of_term, of_terms, of_part, of_atom, of_literal, of_clause, bounds_of, no_bounds, joined, bounds}
+use Rattle.reader.specs.Summary.{Taken, of_term, of_terms, of_part, of_parts, of_atom, of_literal, of_clause, bounds_of, no_bounds, joined, bounds}
 use Rattle.text.proofs.Tests.{T_and, same_test}
 
 pub record Lawful {M : Type 0} (nothing : M) (join : M → M → M) : Type 0 where
@@ -41,8 +41,8 @@ bounds_lawful = let w = max_lawful in record {
       (w.assoc a.unknown b.unknown c.unknown i);
 }
 
--- What is taken tells what a function gives of terms, lists of terms and clauses: the function joins what it gives of their parts, and a
--- method's number of arguments adds nothing to it.
+-- What is taken tells what a function gives of terms, lists of terms and clauses: the function joins what it gives of their parts, and the
+-- numbers of a method's arguments and of a molecule's parts add nothing to it.
 pub record Tells {M N : Type 0} (K : Taken M) (see : M → N) (term : Term → N) (terms : Terms → N) (clause : Clause → N) : Type 0 where
   pub both : N → N → N
   pub laws : Lawful (terms nil) both
@@ -51,6 +51,7 @@ pub record Tells {M N : Type 0} (K : Taken M) (see : M → N) (term : Term → N
   pub on_variable : (n : ℕ) → see (K.variable n) ≡ term (var n)
   pub on_symbol : (f : ℕ) (ts : Terms) → both (see (K.symbol f (count ts))) (terms ts) ≡ term (app f ts)
   pub on_arity : (n : ℕ) → see (K.arity n) ≡ terms nil
+  pub on_molecule : (n : ℕ) → see (K.molecule n) ≡ terms nil
   pub on_term : (t : Term) (ts : Terms) → both (term t) (terms ts) ≡ terms (cons t ts)
   pub on_none : terms nil ≡ clause []
   pub on_literal : (g : Sign) (x : Atom) (c : Clause) → both (terms (terms_of x)) (clause c) ≡ clause (lit g x ∷ c)
@@ -88,11 +89,19 @@ module _ {M N : Type 0} {K : Taken M} {see : M → N} {term : Term → N} {terms
       let rest = pair (tell_terms ts) (tell_terms (result_terms r)) ∙ append ts (result_terms r) in
       pair (S.on_arity (count ts)) (pair (tell_term m) rest ∙ S.on_term m (join ts (result_terms r))) ∙ S.laws.left _
 
+  tell_parts : (ps : Parts) → see (of_parts K ps) ≡ terms (parts_terms ps)
+  unfolding of_parts parts_terms
+  tell_parts (only p) = tell_part p
+  tell_parts (also p ps) = pair (tell_part p) (tell_parts ps) ∙ append (part_terms p) (parts_terms ps)
+
   tell_atom : (x : Atom) → see (of_atom K x) ≡ terms (terms_of x)
-  unfolding of_atom terms_of
+  unfolding of_atom terms_of parts_terms
   tell_atom (link l t u) = pair (tell_term t) (tell_term u ∙ alone u) ∙ S.on_term t (cons u nil)
   tell_atom (obj t) = tell_term t ∙ alone t
-  tell_atom (arrows o p) = pair (tell_term o) (tell_part p) ∙ S.on_term o (part_terms p)
+  tell_atom (arrows o (only p)) = pair (tell_term o) (tell_part p) ∙ S.on_term o (part_terms p)
+  tell_atom (arrows o (also p ps)) =
+      let all = pair (tell_term o) (tell_parts (also p ps)) ∙ S.on_term o (parts_terms (also p ps)) in
+      pair (S.on_molecule _) all ∙ S.laws.left _
 
   pub tell_clause : (c : Clause) → see (of_clause K c) ≡ clause c
   unfolding of_clause of_literal
@@ -110,6 +119,7 @@ width_told table = record {
   on_variable = λ n. refl;
   on_symbol = λ f ts. omega arith;
   on_arity = λ n. refl;
+  on_molecule = λ n. refl;
   on_term = λ t ts. refl;
   on_none = refl;
   on_literal = λ g x c. refl;
@@ -118,10 +128,10 @@ width_told table = record {
 -- A test of each variable and of each applied symbol.
 each_told : {M : Type 0} {K : Taken M} {see : M → Bool} (p : ℕ → Bool) (s : ℕ → ℕ → Bool) → see K.nothing ≡ true
     → ((a b : M) → see (K.join a b) ≡ see a && see b) → ((n : ℕ) → see (K.variable n) ≡ p n) → ((f n : ℕ) → see (K.symbol f n) ≡ s f n)
-    → ((n : ℕ) → see (K.arity n) ≡ true) →
+    → ((n : ℕ) → see (K.arity n) ≡ true) → ((n : ℕ) → see (K.molecule n) ≡ true) →
     Tells K see (each_term p s) (each_terms p s) (each_clause p s)
 unfolding each_term each_clause each_atom
-each_told p s z j v f a = record {
+each_told p s z j v f a m = record {
   both = ◌&&◌;
   laws = record { left = λ b. refl; right = and_true; assoc = and_assoc };
   on_nothing = z;
@@ -129,6 +139,7 @@ each_told p s z j v f a = record {
   on_variable = v;
   on_symbol = λ g ts. ap (λ b. b && each_terms p s ts) (f g (count ts));
   on_arity = a;
+  on_molecule = m;
   on_term = λ t ts. refl;
   on_none = refl;
   on_literal = λ g x c. refl;
@@ -148,7 +159,7 @@ pub declared_told : (table : List ℕ)
 unfolding joined
 declared_told table =
     each_told any (declares table) refl (λ a b. none_unknown a.unknown b.unknown) (λ n. refl) (λ f n. unless_known f (declares table f n))
-    (λ n. refl)
+    (λ n. refl) (λ n. refl)
 
 -- Whether every variable is below n.
 pub leb_max : (a b n : ℕ) → leb (max a b) n ≡ leb a n && leb b n
@@ -160,4 +171,4 @@ pub below_told : (table : List ℕ) (n : ℕ) → let p : ℕ → Bool = λ v. l
 unfolding joined
 below_told table n =
     let z = le-leb 0 n (omega arith) in
-    each_told (λ v. ltb v n) (λ _ _. true) z (λ a b. leb_max a.width b.width n) (λ v. refl) (λ f k. z) (λ k. z)
+    each_told (λ v. ltb v n) (λ _ _. true) z (λ a b. leb_max a.width b.width n) (λ v. refl) (λ f k. z) (λ k. z) (λ k. z)

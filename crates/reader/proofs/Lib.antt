@@ -3,6 +3,7 @@ pub mod Declared
 pub mod Listing
 pub mod Lists
 pub mod AtomKinds
+pub mod Molecules
 pub mod Results
 pub mod Lines
 pub mod Steps

@@ -10,14 +10,24 @@ use Rattle.reader.specs.Listed.{before, Listed}
 use Rattle.text.proofs.Gives.{strip_gives, given}
 use Rattle.reader.proofs.Bounds.{bounds_lawful}
 
+-- What follows a value, exchanged for what agrees with it, and what follows two values in turn.
+pub after : {A B : Type 0} {f g : A → Reader B} (p : Parsed A) → ((a : A) (r : List ℕ) → f a r ≡ g a r) → and_then p f ≡ and_then p g
+after bad h = refl
+after (got a rest) h = h a rest
+
+pub after_after : {A B C : Type 0} (p : Parsed A) (f : A → Reader B) (g : B → Reader C)
+    → and_then (and_then p f) g ≡ and_then p (λ a rest. and_then (f a rest) g)
+after_after bad f g = refl
+after_after (got a rest) f g = refl
+
 -- A space and an item, or the closing bracket: where a space stands, and where none does.
-space_next : {A S : Type 0} (none : S) (more : A → S → S) (read : Reader A) (others : Reader S) (bs : List ℕ) {rest : List ℕ}
+pub space_next : {A S : Type 0} (none : S) (more : A → S → S) (read : Reader A) (others : Reader S) (bs : List ℕ) {rest : List ℕ}
     → strip (bytes " ") bs ≡ got tt rest
     → read_next none more read others bs ≡ and_then (read rest) (λ a bs. and_then (others bs) (λ x. return (more a x)))
 unfolding read_next one_of strip
 space_next none more read others bs {rest} e = rw (given (strip_gives (bytes " ") bs) e)
 
-no_space_next : {A S : Type 0} (none : S) (more : A → S → S) (read : Reader A) (others : Reader S) (bs : List ℕ)
+pub no_space_next : {A S : Type 0} (none : S) (more : A → S → S) (read : Reader A) (others : Reader S) (bs : List ℕ)
     → strip (bytes " ") bs ≡ bad → read_next none more read others bs ≡ and_then (strip (bytes ")") bs) (λ _. return none)
 unfolding read_next one_of
 no_space_next {A} {S} none more read others bs e = go (strip (bytes ")") bs) _

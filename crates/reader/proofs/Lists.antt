@@ -1,15 +1,18 @@
--- Terms and literals up to the closing bracket.
+-- Terms, literals and parts up to the closing bracket.
 use Rattle.std.proofs.Common.{◌≡◌, ℕ, ◌≤◌, List, [], ◌∷◌, length, Option, Some, None, Bor, refl, sym, ◌∙◌, ap}
 use Rattle.std.specs.Prelude.{IfSome}
-use Rattle.logic.specs.Syntax.{Term, Terms, nil, cons, Literal, Clause}
+use Rattle.logic.specs.Syntax.{Term, Terms, nil, cons, Part, Literal, Clause}
 use Rattle.logic.specs.Terms.{count}
 use Rattle.text.specs.Write.{Writer}
-use Rattle.text.specs.Read.{got, Reader, strip, read_number, read_next, read_many, read_applied, read_term, read_terms, read_literal}
+use Rattle.text.specs.Read.{got, Reader, strip, read_number, read_next, read_many, read_applied, read_term, read_terms}
+use Rattle.text.specs.Read.{read_bracketed, read_literal}
 use Rattle.reader.specs.declared.measures.Bounds.{Bounds}
-use Rattle.reader.specs.Summary.{of_term, of_terms, of_literal, of_clause, symbol_bounds, bounds, empty, terms_measure, clause_measure}
+use Rattle.reader.specs.Summary.{of_term, of_terms, of_part, of_part_list, of_literal, of_clause, symbol_bounds, bounds, empty}
+use Rattle.reader.specs.Summary.{terms_measure, parts_measure, clause_measure}
 use Rattle.text.proofs.Gives.{Sound, given}
-use Rattle.text.proofs.Plain.{Plain, put_grows, term_plain, literal_plain}
-use Rattle.text.proofs.Sound.{term_sound, literal_sound}
+use Rattle.text.proofs.Items.{part_list, many_step}
+use Rattle.text.proofs.Plain.{Plain, put_grows, term_plain, bracketed_plain, literal_plain}
+use Rattle.text.proofs.Sound.{term_sound, bracketed_sound, literal_sound}
 use Rattle.text.proofs.Rest.{terms_step, clause_step}
 use Rattle.reader.specs.Listed.{before, Listed}
 use Rattle.reader.proofs.Listing.{measuring, mapped_next}
@@ -30,6 +33,10 @@ pub term_no_longer : (d : ℕ) (table bs : List ℕ) (r : Option (Bounds × Bor 
     → parsed r ≡ mapped (of_term (bounds table)) (read_term d bs) → IfSome r (λ p. length p.1.now ≤ length bs)
 term_no_longer d table = no_longer (term_sound d) term_plain (of_term (bounds table))
 
+pub part_no_longer : (d : ℕ) (table bs : List ℕ) (r : Option (Bounds × Bor (List ℕ)))
+    → parsed r ≡ mapped (of_part (bounds table)) (read_bracketed d bs) → IfSome r (λ p. length p.1.now ≤ length bs)
+part_no_longer d table = no_longer (bracketed_sound d) bracketed_plain (of_part (bounds table))
+
 pub literal_no_longer : (d : ℕ) (table bs : List ℕ) (r : Option (Bounds × Bor (List ℕ)))
     → parsed r ≡ mapped (of_literal (bounds table)) (read_literal d bs) → IfSome r (λ p. length p.1.now ≤ length bs)
 literal_no_longer d table = no_longer (literal_sound d) literal_plain (of_literal (bounds table))
@@ -42,6 +49,20 @@ terms_more table t ts = refl
 pub terms_none : (table : List ℕ) → terms_measure table nil ≡ empty
 unfolding of_terms count
 terms_none table = refl
+
+-- Parts are read by their first step, as terms and literals are.
+pub parts_step : (d : ℕ) (bs : List ℕ)
+    → read_many [] ◌∷◌ (read_bracketed d) bs ≡ read_next [] ◌∷◌ (read_bracketed d) (read_many [] ◌∷◌ (read_bracketed d)) bs
+parts_step d = many_step (part_list d) (bracketed_sound d) bracketed_plain
+
+parts_more : (table : List ℕ) (p : Part) (ps : List Part)
+    → parts_measure table (p ∷ ps) ≡ before (of_part (bounds table) p) (parts_measure table ps)
+unfolding of_part_list
+parts_more table p ps = refl
+
+parts_none : (table : List ℕ) → parts_measure table [] ≡ empty
+unfolding of_part_list
+parts_none table = refl
 
 clause_more : (table : List ℕ) (l : Literal) (c : Clause)
     → clause_measure table (l ∷ c) ≡ before (of_literal (bounds table) l) (clause_measure table c)
@@ -59,6 +80,16 @@ term_list d table = record {
       ap (mapped (terms_measure table)) (terms_step d bs)
       ∙ mapped_next nil cons (read_term d) (read_terms (read_term d)) (of_term (bounds table)) (terms_measure table) (terms_none table)
       (terms_more table) bs;
+}
+
+pub listed_parts : (d : ℕ) (table : List ℕ)
+    → Listed (λ bs. mapped (of_part (bounds table)) (read_bracketed d bs))
+    (λ bs. mapped (parts_measure table) (read_many [] ◌∷◌ (read_bracketed d) bs))
+listed_parts d table = record {
+  step = λ bs.
+      ap (mapped (parts_measure table)) (parts_step d bs)
+      ∙ mapped_next [] ◌∷◌ (read_bracketed d) (read_many [] ◌∷◌ (read_bracketed d)) (of_part (bounds table)) (parts_measure table)
+      (parts_none table) (parts_more table) bs;
 }
 
 pub literal_list : (d : ℕ) (table : List ℕ)

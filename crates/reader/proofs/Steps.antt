@@ -17,7 +17,7 @@ use Rattle.reader.specs.Summary.{terms_measure, clause_measure}
 use Rattle.reader.specs.LineAt.{read_spaced, read_head, closed, from_clause, from_second, from_first, place_of, step_of, line_of}
 use Rattle.text.proofs.Gives.{given, strip_gives}
 use Rattle.text.proofs.Sound.{clause_sound, let_sound}
-use Rattle.reader.proofs.Listing.{measuring}
+use Rattle.reader.proofs.Listing.{after, after_after, measuring}
 use Rattle.reader.proofs.Lines.{is_closed, ended}
 
 -- LET LET CLAUSE) after the head, each after one space.
@@ -31,15 +31,6 @@ step_body depth h = do
   claim ← read_clause depth
   skip ")"
   return (by (record { rule = h.0; a = h.1.a; i = h.1.i; b = h.1.b; j = h.1.j; k = h.1.k; first = first; second = second; claim = claim }))
-
-after : {A B : Type 0} {f g : A → Reader B} (p : Parsed A) → ((a : A) (r : List ℕ) → f a r ≡ g a r) → and_then p f ≡ and_then p g
-after bad h = refl
-after (got a rest) h = h a rest
-
-after_after : {A B C : Type 0} (p : Parsed A) (f : A → Reader B) (g : B → Reader C)
-    → and_then (and_then p f) g ≡ and_then p (λ a rest. and_then (f a rest) g)
-after_after bad f g = refl
-after_after (got a rest) f g = refl
 
 number_next : {A B : Type 0} (f : ℕ → Reader A) (g : A → Reader B) {h : ℕ → Reader B} (bs : List ℕ)
     → ((n : ℕ) (r : List ℕ) → and_then (f n r) g ≡ h n r)

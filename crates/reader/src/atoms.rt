@@ -1,11 +1,11 @@
 // Atoms and literals.
-ghost use Rattle.std.specs.Prelude.{◌≡◌};
+ghost use Rattle.std.specs.Prelude.{◌≡◌, [], ◌∷◌};
 ghost use Rattle.logic.specs.declared.Link.{Link};
 ghost use Rattle.logic.specs.Syntax.{may_be_none};
 ghost use Rattle.text.specs.Read.{read_arguments, read_result, read_link, read_object, read_part, read_method, read_kind, read_atom};
-ghost use Rattle.text.specs.Read.{read_literal};
+ghost use Rattle.text.specs.Read.{read_many, read_bracketed, read_molecule, read_literal};
 ghost use Rattle.text.specs.Answers.{parsed, mapped};
-ghost use Rattle.reader.specs.Summary.{of_result, of_part, of_atom, of_literal, bounds, terms_measure};
+ghost use Rattle.reader.specs.Summary.{of_result, of_part, of_atom, of_literal, bounds, terms_measure, parts_measure};
 
 use crate::context::Context;
 use crate::measures::{Bounds, Measure};
@@ -103,8 +103,38 @@ impl<'t> Context<'t> {
         Some((object.join(part), s))
     }
 
+    // T21, a PART of a molecule: (ARROW M (T ...) R).
+    #[tactic(auto, unfolding(text::specs::Read::read_bracketed, text::specs::Read::read_arrow))]
+    fn bracketed<'s>(self, s: &'s [u8]) -> Option<(Bounds, &'s [u8])>
+        ensures { parsed result ≡ mapped (of_part (bounds self.entry.table.now)) (read_bracketed self.entry.depth s.now) }
+    {
+        let s = word(s, b"(")?;
+        let (arrow, s) = one_of(s)?;
+        let s = word(s, b" ")?;
+        self.part(s, arrow)
+    }
+
+    // Parts of a molecule, each after one space, up to the closing bracket.
+    fn parts<'s>(self, s: &'s [u8]) -> Option<(Measure, &'s [u8])>
+        ensures { parsed result ≡ mapped (parts_measure self.entry.table.now) (read_many [] ◌∷◌ (read_bracketed self.entry.depth) s.now) }
+    {
+        self.many(s, Context::bracketed)
+    }
+
+    // T21, T PART PART ...) after the word mol: with fewer than two parts it isn't a form.
+    #[tactic(auto, using(crate::proofs::Molecules::molecule_splits, crate::proofs::Molecules::molecule_reads))]
+    fn molecule<'s>(self, s: &'s [u8]) -> Option<(Bounds, &'s [u8])>
+        ensures { parsed result ≡ mapped (of_atom (bounds self.entry.table.now)) (read_molecule self.entry.depth s.now) }
+    {
+        let s = word(s, b" ")?;
+        let (object, s) = self.term(s)?;
+        let (parts, s) = self.parts(s)?;
+        let terms = object.join(parts.bounds);
+        (parts.count >= 2).then_some((Bounds::molecule(parts.count).join(terms), s))
+    }
+
     // The word of an atom decides what follows it.
-    #[tactic(auto, using(crate::proofs::AtomKinds::an_object, crate::proofs::AtomKinds::an_arrow, crate::proofs::AtomKinds::no_kind))]
+    #[tactic(auto, using(crate::proofs::AtomKinds::an_object, crate::proofs::AtomKinds::a_molecule, crate::proofs::AtomKinds::an_arrow, crate::proofs::AtomKinds::no_kind))]
     fn shape<'s>(self, s: &'s [u8]) -> Option<(Bounds, &'s [u8])>
         ensures { parsed result ≡ mapped (of_atom (bounds self.entry.table.now)) (read_kind self.entry.depth s.now) }
     {
@@ -113,6 +143,9 @@ impl<'t> Context<'t> {
         }
         if let Some(s) = word(s, b"obj") {
             return self.object(s);
+        }
+        if let Some(s) = word(s, b"mol") {
+            return self.molecule(s);
         }
         let (arrow, s) = one_of(s)?;
         self.method(s, arrow)

@@ -1,10 +1,11 @@
 // What is measured of a part.
 ghost use Rattle.std.specs.Prelude.{◌≡◌, ◌+◌, ◌<◌, ◌^◌};
-ghost use Rattle.reader.specs.Summary.{no_bounds, below_bounds, symbol_bounds, arity_bounds, joined, measured, empty};
+ghost use Rattle.reader.specs.Summary.{no_bounds, below_bounds, symbol_bounds, arity_bounds, molecule_bounds, joined, measured, empty};
 
 // What is bounded of a part: the highest variable plus 1, the most method arguments, and the highest applied symbol plus 1 that is not
-// declared with its number of terms; 0 where there is none. The larger of two is that of both. Tried: with a flag for the last, seven bytes
-// beside it that mean nothing are moved too, (g) of bench/ takes 17 in 100 longer, and misses its goal.
+// declared with its number of terms; 0 where there is none. The larger of two is that of both. A molecule of n parts counts as a method
+// with half as many arguments, rounded up: at most 8, the limit, exactly if the parts are at most 16, theirs. Tried: with a flag for the
+// last, seven bytes beside it that mean nothing are moved too, (g) of bench/ takes 17 in 100 longer, and misses its goal.
 #[derive(Clone, Copy, Debug, PartialEq, Eq)]
 pub struct Bounds {
     pub width: usize,
@@ -53,6 +54,13 @@ impl Bounds {
             arguments: n,
             ..Bounds::nothing()
         }
+    }
+
+    // A molecule with n parts, among the arguments: 16 parts count as 8 arguments, 17 as 9.
+    pub fn molecule(n: usize) -> Self
+        ensures { result ≡ molecule_bounds n }
+    {
+        Bounds::arity(n.div_ceil(2))
     }
 
     // Two parts, self on the left of other.

@@ -6,16 +6,16 @@ use mathlib.Core.List.{List, [], ◌∷◌, map}
 use native.Mathlib.Omega.{arith}
 use lib.ListN.{length, get_or}
 use Rattle.logic.specs.declared.Rule.{Rule}
-use Rattle.logic.specs.declared.Rule.TheVariants.{Refl, Res, Fac, Par, Acy, Tra, Inc, Inh, Inp, Out, Sca, Eli}
+use Rattle.logic.specs.declared.Rule.TheVariants.{Refl, Res, Fac, Par, Acy, Tra, Inc, Inh, Inp, Out, Sca, Eli, Mer, Pro}
 use Rattle.logic.specs.Rules.{Uses, uses}
 use Rattle.rule_numbers.specs.declared.Uses as code
 use Rattle.rule_numbers.specs.Uses.{rule_row, uses_of}
 
 abbrev pub rules : List Rule
-rules = Refl ∷ Res ∷ Fac ∷ Par ∷ Acy ∷ Tra ∷ Inc ∷ Inh ∷ Inp ∷ Out ∷ Sca ∷ Eli ∷ []
+rules = Refl ∷ Res ∷ Fac ∷ Par ∷ Acy ∷ Tra ∷ Inc ∷ Inh ∷ Inp ∷ Out ∷ Sca ∷ Eli ∷ Mer ∷ Pro ∷ []
 
 pub record Placed (rule : Rule) : Type 0 where
-  pub below : rule_row rule < 12
+  pub below : rule_row rule < 14
   pub there : get_or rules (rule_row rule) Refl ≡ rule
 
 pub placed : (rule : Rule) → Placed rule
@@ -32,6 +32,8 @@ placed = elim [
   | Out ↦ record { below = omega arith; there = refl }
   | Sca ↦ record { below = omega arith; there = refl }
   | Eli ↦ record { below = omega arith; there = refl }
+  | Mer ↦ record { below = omega arith; there = refl }
+  | Pro ↦ record { below = omega arith; there = refl }
 ]
 
 row_of_lem : {A : Type 0} (f : Rule → A) (d : A) (rs : List Rule) (n : ℕ) → n < length rs → get_or (map f rs) n d ≡ f (get_or rs n Refl)

@@ -2,7 +2,7 @@
 -- The table of used numbers, by rows, and the checks that go by it.
 use Rattle.std.specs.Prelude.{ℕ, Bool, ◌&&◌}
 use Rattle.logic.specs.declared.Rule.{Rule}
-use Rattle.logic.specs.declared.Rule.TheVariants.{Refl, Res, Fac, Par, Acy, Tra, Inc, Inh, Inp, Out, Sca, Eli}
+use Rattle.logic.specs.declared.Rule.TheVariants.{Refl, Res, Fac, Par, Acy, Tra, Inc, Inh, Inp, Out, Sca, Eli, Mer, Pro}
 use Rattle.logic.specs.Rules.{uses}
 use Rattle.logic.specs.StepChecks.{below, zero_if_unused}
 use Rattle.rule_numbers.specs.declared.Uses.{Uses}
@@ -22,6 +22,8 @@ rule_row Inp = 8
 rule_row Out = 9
 rule_row Sca = 10
 rule_row Eli = 11
+rule_row Mer = 12
+rule_row Pro = 13
 
 -- R6: "Which numbers each rule uses".
 abbrev pub uses_of : Rule → Uses

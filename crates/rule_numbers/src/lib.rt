@@ -8,7 +8,7 @@ ghost use Rattle.rule_numbers.specs.Uses.{rule_row, uses_of, parent_numbers, unu
 use logic::Rule;
 
 // The flags of A I B J K, in the order of the rule table. A reference, for an array would be made anew wherever it is looked up.
-const USES: &[[bool; 5]; 12] = &[
+const USES: &[[bool; 5]; 14] = &[
     [false, false, false, false, false],
     [true, true, true, true, false],
     [true, true, false, true, false],
@@ -21,6 +21,8 @@ const USES: &[[bool; 5]; 12] = &[
     [true, true, true, true, false],
     [true, true, true, true, false],
     [true, true, false, false, false],
+    [true, true, true, true, false],
+    [true, true, false, false, true],
 ];
 
 // The rule's row, in the order of the rule table. Tables of rows are the form that is asked for.

@@ -4,11 +4,12 @@
 ghost use Rattle.std.specs.Prelude.{◌≡◌};
 ghost use Rattle.text.specs.Answers.{passed};
 ghost use Rattle.rule_table.specs.Rows.{row_of, term_at, at_found, found_of, found_by, agrees_by};
-ghost use Rattle.rule_table.specs.Rows.{resolved, factored, replaced, crossed, called, denying};
+ghost use Rattle.rule_table.specs.Rows.{resolved, factored, replaced, crossed, called, denying, joined, projected};
 ghost use Rattle.filling.specs.Items.{item_of};
 
 use agreement::agree::Pair;
 use clauses::access::occurrence;
+use clauses::parts::{Part, molecule, object, part_at};
 use clauses::shapes::{
     argument, atom, denied, link, negative, next, positive, same_arrow, same_sign, scalar,
     signature, value,
@@ -47,9 +48,11 @@ pub enum Row {
     Acyclicity,
     Scalarity,
     Elimination,
+    Merging,
+    Projection,
 }
 
-const ROWS: &[Row; 12] = &[
+const ROWS: &[Row; 14] = &[
     Row::Reflexivity,
     Row::Resolution,
     Row::Factoring,
@@ -86,6 +89,8 @@ const ROWS: &[Row; 12] = &[
     }),
     Row::Scalarity,
     Row::Elimination,
+    Row::Merging,
+    Row::Projection,
 ];
 
 // The rule's row.
@@ -102,8 +107,8 @@ pub fn table_row(rule: Rule) -> Row
 pub enum Found<'a> {
     // refl: no term has to agree.
     Nothing,
-    // res, fac: the atom on the right has to cover the one on the left.
-    Covering {
+    // res, fac: the atom on the left has to fit into the one on the right.
+    Fitting {
         left: &'a [u8],
         right: &'a [u8],
     },
@@ -132,6 +137,18 @@ pub enum Found<'a> {
     },
     // eli: no term has to agree.
     Denied,
+    // mer: the two atoms, and their objects.
+    Merging {
+        left: &'a [u8],
+        object: &'a [u8],
+        right: &'a [u8],
+        other: &'a [u8],
+    },
+    // pro: the object of the molecule, and the part.
+    Projecting {
+        object: &'a [u8],
+        part: Part<'a>,
+    },
 }
 
 // The term of the literal that a rewriting rule replaces.
@@ -155,7 +172,7 @@ fn term(target: Target, k: usize, literal: &[u8]) -> Option<&[u8]>
 fn resolution<'a>(x: &'a [u8], y: &'a [u8]) -> Option<Found<'a>>
     ensures { found_of result ≡ resolved x.now y.now }
 {
-    Some(Found::Covering {
+    Some(Found::Fitting {
         left: negative(x)?,
         right: positive(y)?,
     })
@@ -169,7 +186,7 @@ fn factoring<'a>(x: &'a [u8], y: &'a [u8]) -> Option<Found<'a>>
     if x.len() == y.len() || !same_sign(x, y) {
         return None;
     }
-    Some(Found::Covering {
+    Some(Found::Fitting {
         left: atom(x)?,
         right: atom(y)?,
     })
@@ -238,6 +255,31 @@ fn elimination<'a>(x: &'a [u8]) -> Option<Found<'a>>
     Some(Found::Denied)
 }
 
+// mer: two + arrow atoms or molecules.
+#[tactic(auto, unfolding(crate::specs::Rows::joined, crate::specs::Rows::behind))]
+fn merging<'a>(x: &'a [u8], y: &'a [u8]) -> Option<Found<'a>>
+    ensures { found_of result ≡ joined x.now y.now }
+{
+    let left = positive(x)?;
+    let right = positive(y)?;
+    Some(Found::Merging {
+        left,
+        object: object(left)?,
+        right,
+        other: object(right)?,
+    })
+}
+
+// pro: a + molecule at I, and its part K.
+#[tactic(auto, unfolding(crate::specs::Rows::projected, crate::specs::Rows::behind, crate::specs::Rows::with_part))]
+fn projection<'a>(k: usize, x: &'a [u8]) -> Option<Found<'a>>
+    ensures { found_of result ≡ projected k x.now }
+{
+    let object = molecule(positive(x)?)?;
+    let part = part_at(object, k)?;
+    Some(Found::Projecting { object, part })
+}
+
 // The second column: what the shape names in the literals at I and J, where there are such; x and y are what stands from there on.
 #[tactic(auto, unfolding(crate::specs::Rows::found_by, crate::specs::Rows::behind))]
 pub fn find<'a>(row: Row, k: usize, x: Option<&'a [u8]>, y: Option<&'a [u8]>) -> Option<Found<'a>>
@@ -252,6 +294,8 @@ pub fn find<'a>(row: Row, k: usize, x: Option<&'a [u8]>, y: Option<&'a [u8]>) ->
         Row::Acyclicity => acyclicity(x?, y?),
         Row::Scalarity => scalarity(x?, y?),
         Row::Elimination => elimination(x?),
+        Row::Merging => merging(x?, y?),
+        Row::Projection => projection(k, x?),
     }
 }
 
@@ -264,8 +308,8 @@ impl<'a> Found<'a> {
         ensures pair_unchanged { (item_of pair.exit.a ≡ item_of pair.entry.a) × (item_of pair.exit.b ≡ item_of pair.entry.b) }
     {
         match *self {
-            Found::Nothing | Found::Denied => true,
-            Found::Covering { left, right } => pair.beside(left, right).covers(),
+            Found::Nothing | Found::Denied | Found::Projecting { .. } => true,
+            Found::Fitting { left, right } => pair.beside(left, right).fits(),
             Found::Rewriting { term, side, .. } => pair.beside(term, side).agree(),
             Found::Crossing {
                 left,
@@ -279,6 +323,7 @@ impl<'a> Found<'a> {
                 right,
                 ..
             } => same_arrow && pair.beside(left, right).calls(),
+            Found::Merging { object, other, .. } => pair.beside(object, other).agree(),
         }
     }
 }

@@ -7,7 +7,7 @@ use mathlib.Core.Path.{◌≡◌, refl, ap, subst, ◌∙◌}
 use native.Mathlib.Omega.{arith}
 use borrow.Author.Tests.{ne_eqb}
 use lib.ListN.{length, take, drop}
-use Rattle.std.specs.Prelude.{Option}
+use Rattle.std.specs.Prelude.{Option, None}
 use Rattle.text.specs.Words.{bytes}
 use Rattle.text.specs.Read.{Parsed, bad, got, strip}
 use Rattle.text.proofs.Places.{end_of}
@@ -19,12 +19,14 @@ use Rattle.filling.specs.Items.{Item, by_entries, filled_in}
 use Rattle.filling.proofs.Places.{plain, ends_of}
 use Rattle.filling.proofs.Agree.{stands_at, agree_at, parts_at, calls_at}
 use Rattle.filling.proofs.Covers.{head_at, bare_at, covers_at}
-use Rattle.agreement.specs.Agrees.{met, agrees_by, agrees, further, has_none, bare_calls, parts_agree, calls_agree, is_bare, is_covered}
+use Rattle.agreement.specs.Agrees.{met, agrees_by, agrees, further, has_none, bare_calls, parts_agree, calls_agree, is_bare, is_covered, parts_fit, is_fitting}
 use Rattle.rules.proofs.Answered.{within_here, within_past}
+use Rattle.rules.proofs.RowPlaces.{bare_item, by_places, fits_at}
 use Rattle.rules.proofs.RowsMeet.{both_within, one_past}
 use Rattle.rules.proofs.Landing.{Lands, lands, lost, land, within_lands, lost_walk, then_walk, strip_walk, next_walk, result_walk}
 use Rattle.rules.proofs.ListsSame.{Lists, unlisted, listing, filler_same, filled_same}
 use Rattle.rules.proofs.ClaimsSame.{item}
+use Rattle.rules.proofs.FitsSame.{TestsAlike, fit_alike}
 
 -- Whether two items met, by the places past them.
 met_pos : (p q : List ℕ) (r : Parsed (List ℕ)) → within q (ends_of p q r).pos ≡ met r
@@ -109,3 +111,18 @@ module _ (depth : ℕ) (p line starts q others : List ℕ) {es fs : Option (List
   pub covers_same : {x y : ℕ} {bs cs : List ℕ} → Stands p x bs → Stands q y cs → covers_at depth p x line starts q y others ≡ is_covered depth (item bs es) (item cs fs)
   unfolding covers_at is_covered
   covers_same s t = rw (agree_same s t, bare_same s t)
+
+-- Bytes stand where they begin.
+begins : (bs : List ℕ) → Stands bs 0 bs
+begins bs = record { within = omega arith; bytes_there = refl }
+
+-- An atom fits into another.
+module _ (depth : ℕ) (p line starts q others : List ℕ) {es fs : Option (List (List ℕ))} (l : Lists line starts es) (m : Lists line others fs) where
+  tests_same : TestsAlike None None es fs (by_places depth line starts others) (agrees depth)
+  tests_same = record { at = λ ps qs. agree_same depth ps line starts qs others l m (begins ps) (begins qs) }
+
+  pub fits_same : {x y : ℕ} {bs cs : List ℕ} → Stands p x bs → Stands q y cs → fits_at depth p x line starts q y others ≡ is_fitting depth (item bs es) (item cs fs)
+  unfolding fits_at is_fitting
+  fits_same {bs} {cs} s t =
+      let fit : parts_fit (by_places depth line starts others) (bare_item bs) (bare_item cs) ≡ parts_fit (agrees depth) (item bs es) (item cs fs) = (fit_alike None None es fs tests_same).at bs cs in
+      rw (s.bytes_there, t.bytes_there, fit, covers_same depth p line starts q others l m s t)

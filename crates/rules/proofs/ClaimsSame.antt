@@ -49,7 +49,7 @@ landed_ahead (lands s) = ahead s.bytes_there
 landed_ahead (lost e) = gone (omega arith)
 
 -- What filled bytes leave of the text in which they stand is its end.
-matches_tail : (f : Parsed (List ℕ)) (ts : List ℕ) → Gives (λ left _. End ts left) (matches f ts)
+pub matches_tail : (f : Parsed (List ℕ)) (ts : List ℕ) → Gives (λ left _. End ts left) (matches f ts)
 unfolding matches
 matches_tail bad ts = nothing
 matches_tail (got ws more) ts = bind (strip_gives ws ts) (λ _ left e. gives (rw e (end_append ws left)))

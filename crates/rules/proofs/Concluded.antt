@@ -88,7 +88,7 @@ Expects target c walk = (pos b : ℕ) (x : List ℕ) → strip_at target (put_li
 module _ (depth : ℕ) where
   module _ (rule : Rule) (k : ℕ) (p : List ℕ) (n i x : ℕ) (line starts q : List ℕ) (m j y : ℕ) (others rest : List ℕ) (new a b : Clause)
       (news : Expects rest new (new_at depth rule k p x line starts q y others rest))
-      (firsts : Expects rest a (others_at depth p n (dropped_at (uses rule).b p x i j) line starts rest))
+      (firsts : Expects rest a (others_at depth p n (dropped_at (uses rule).b (uses rule).j p x i j) line starts rest))
       (seconds : Expects rest b (others_at depth q m j line others rest)) where
     claim_chain : strip_at rest (put_clause (new ++ (a ++ b)) (word ")" [])) 0 ≡ claim_at depth rule k p n i x line starts q m j y others rest
     unfolding put_clause claim_at claim_by new_at
@@ -98,7 +98,7 @@ module _ (depth : ℕ) where
         let o₁ = literals_open new o₂.0 o₂.1 in
         let begin = strip_at rest (bytes "(or") 0 in
         let first = new_at depth rule k p x line starts q y others rest begin in
-        let second = others_at depth p n (dropped_at (uses rule).b p x i j) line starts rest first in
+        let second = others_at depth p n (dropped_at (uses rule).b (uses rule).j p x i j) line starts rest first in
         ap (λ z. strip_at rest (bytes "(or" ++ z) 0) (literals_append new (a ++ b) (41 ∷ 41 ∷ []) ∙ ap (put_literals new) (literals_append a b (41 ∷ 41 ∷ []) ∙ (ap (put_literals a) o₃.2 ∙ o₂.2)) ∙ o₁.2)
         ∙ (strip_chain rest (bytes "(or") o₁.0 o₁.1 0
         ∙ (ap (λ z. strip_at rest z begin) (sym o₁.2)
@@ -110,7 +110,7 @@ module _ (depth : ℕ) where
   -- Checks 9 and 10 as the table says, and the claim: then the answer is that of the conclusion.
   pub concluded : (rule : Rule) (k : ℕ) (p : List ℕ) (n i x : ℕ) (line starts q : List ℕ) (m j y : ℕ) (others : List ℕ) (new a b : Clause) {pos : ℕ} {claim : Clause} → ClaimAt line pos claim →
       Expects (drop pos line) new (new_at depth rule k p x line starts q y others (drop pos line)) →
-      Expects (drop pos line) a (others_at depth p n (dropped_at (uses rule).b p x i j) line starts (drop pos line)) →
+      Expects (drop pos line) a (others_at depth p n (dropped_at (uses rule).b (uses rule).j p x i j) line starts (drop pos line)) →
       Expects (drop pos line) b (others_at depth q m j line others (drop pos line)) →
       (g : Agreement) → row_at depth rule k p x line starts q y others ≡ judged_of (concludes g new) → Over formed_number formed_symbol (new ++ (a ++ b)) →
       then_claim (row_at depth rule k p x line starts q y others) (eqb (claim_at depth rule k p n i x line starts q m j y others (drop pos line)) (length (drop pos line))) ≡ judge_conclusion (concludes g (new ++ (a ++ b))) claim

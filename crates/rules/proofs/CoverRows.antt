@@ -12,10 +12,12 @@ use Rattle.logic.specs.declared.Sign.TheVariants.{Positive, Negative}
 use Rattle.logic.specs.declared.Rule.TheVariants.{Res, Fac, Eli}
 use Rattle.std.specs.Prelude.{Err}
 use Rattle.logic.specs.declared.Check.{Check}
-use Rattle.logic.specs.Syntax.{arrow_of, Atom, link, obj, arrows, Literal, lit, Clause}
+use Rattle.logic.specs.Syntax.{arrow_of, only, also, Atom, link, obj, arrows, Literal, lit, Clause}
 use Rattle.logic.specs.Each.{width}
 use Rattle.logic.specs.Fill.{Substitution, fill_atom, fill_literal}
-use Rattle.logic.specs.Rules.{Agreement, always, covering, Covers, Holds}
+use Rattle.logic.specs.Rules.{Agreement, always, fitting, Fits, Holds}
+use Rattle.logic.proofs.Both.{left}
+use Rattle.text.specs.Figures.{few_parts, few_parts_all}
 use Rattle.logic.specs.Judge.{Conclusion, misshapen, concludes, on_plus, on_minus, on_obj, conclude_res, conclude_fac, conclude_eli, table_row}
 use Rattle.text.specs.Words.{bytes}
 use Rattle.text.specs.Write.{word, put_literals}
@@ -30,26 +32,26 @@ use Rattle.rules.proofs.Meets.{Images, LiteralAt, Meets}
 use Rattle.rules.proofs.TermsMeet.{missing, concluding}
 use Rattle.rules.proofs.Targets.{link_small, past_positive}
 use Rattle.rules.proofs.RowsMeet.{both_within, one_past, past_shape}
-use Rattle.rules.proofs.CoversMeet.{AtomAt, arrow_range, covers_meet}
-use Rattle.rules.proofs.RowPlaces.{answer, row_at, found_by, resolved, agrees_by, factored}
+use Rattle.rules.proofs.CoversMeet.{AtomAt, arrow_range}
+use Rattle.rules.proofs.FitsMeet.{fits_meet}
+use Rattle.rules.proofs.RowPlaces.{answer, row_at, found_by, resolved, agrees_by, factored, fits_at}
 use Rattle.clauses.proofs.Places.{negative_at}
-use Rattle.filling.proofs.Covers.{covers_at}
 use Rattle.clauses.proofs.Places.{same_sign_at, atom_at}
 use Rattle.rules.proofs.ClaimPlaces.{new_at, new_by}
 
 module _ (depth : ℕ) where
   module _ (p : List ℕ) {i v : ℕ} (x : Atom) where
     -- The atom of a literal of either sign.
-    positive_at_lem : LiteralAt depth p i v (lit Positive x) → AtomAt depth p (positive_at p i) v x
-    unfolding formed_literal width
-    positive_at_lem a = let h = a.narrow in record { rest = word ")" a.rest; stands = positive_stands p x a.rest a.stands; formed = a.formed; narrow = omega arith }
+    pub positive_at_lem : LiteralAt depth p i v (lit Positive x) → AtomAt depth p (positive_at p i) v x
+    unfolding formed_literal few_parts_all width
+    positive_at_lem a = let h = a.narrow in record { rest = word ")" a.rest; stands = positive_stands p x a.rest a.stands; formed = a.formed; narrow = omega arith; few = left (few_parts x) true a.few }
 
     negative_at_lem : LiteralAt depth p i v (lit Negative x) → AtomAt depth p (negative_at p i) v x
-    unfolding formed_literal width negative_at
-    negative_at_lem a = let h = a.narrow in record { rest = word ")" a.rest; stands = strip_stands p (bytes "(- ") a.stands (minus_of x a.rest); formed = a.formed; narrow = omega arith }
+    unfolding formed_literal few_parts_all width negative_at
+    negative_at_lem a = let h = a.narrow in record { rest = word ")" a.rest; stands = strip_stands p (bytes "(- ") a.stands (minus_of x a.rest); formed = a.formed; narrow = omega arith; few = left (few_parts x) true a.few }
 
     -- It has no other sign.
-    not_positive : LiteralAt depth p i v (lit Negative x) → positive_at p i ≡ length p + 1
+    pub not_positive : LiteralAt depth p i v (lit Negative x) → positive_at p i ≡ length p + 1
     not_positive a = negative_past p x a.rest a.stands
 
     not_negative : LiteralAt depth p i v (lit Positive x) → negative_at p i ≡ length p + 1
@@ -69,7 +71,7 @@ module _ (depth : ℕ) where
     res_meets (lit Negative x) (lit Positive y) a b =
         let c = negative_at_lem depth p x a in
         let d = positive_at_lem depth q y b in
-        concluding depth _ (covering (fill_atom τ y) (fill_atom σ x)) [] refl (rw (both_within p q c.stands.within d.stands.within) (right_shape _ _ _ (covers_meet depth g h p q _ _ y d x c))) (λ target pos b x. refl)
+        concluding depth _ (fitting (fill_atom σ x) (fill_atom τ y)) [] refl (rw (both_within p q c.stands.within d.stands.within) (right_shape _ _ _ (fits_meet depth g h x y c d))) (λ target pos b x. refl)
 
   -- eli: "- obj(P)".
   module _ (k : ℕ) (p : List ℕ) (i : ℕ) (line starts q : List ℕ) (j : ℕ) (others : List ℕ) where
@@ -90,9 +92,12 @@ module _ (depth : ℕ) where
     eli_meets σ (lit Negative (obj t)) a =
         let c = negative_at_lem depth p (obj t) a in
         concluding depth _ always [] refl (rw (within_here p _ (subst (λ x. x ≤ length p) (sym eli_place) (head_stands p (obj t) c.rest c.stands).within)) (right_shape true always [] (λ _. tt, λ _. tt))) (λ target pos b x. refl)
-    eli_meets σ (lit Negative (arrows o q)) a =
-        let c = negative_at_lem depth p (arrows o q) a in
-        other_eli refl (head_past p 3 (arrows o q) c.rest (omega arith) (λ e. omega (arith, (arrow_range (arrow_of q)).0)) c.stands)
+    eli_meets σ (lit Negative (arrows o (only q))) a =
+        let c = negative_at_lem depth p (arrows o (only q)) a in
+        other_eli refl (head_past p 3 (arrows o (only q)) c.rest (omega arith) (λ e. omega (arith, (arrow_range (arrow_of q)).0)) c.stands)
+    eli_meets σ (lit Negative (arrows o (also q qs))) a =
+        let c = negative_at_lem depth p (arrows o (also q qs)) a in
+        other_eli refl (head_past p 3 (arrows o (also q qs)) c.rest (omega arith) (λ e. omega arith) c.stands)
 
   -- fac: two literals of A of one sign.
   sign_at_lem : (p : List ℕ) {i v : ℕ} (g : Sign) (x : Atom) → LiteralAt depth p i v (lit g x) → AtomAt depth p (atom_at p i) v x
@@ -121,16 +126,16 @@ no_sign p i j e f = rw (one_past p p (positive_at p i) (positive_at p j) e, one_
 
 module _ (depth : ℕ) where
   module _ {line starts : List ℕ} {σ : Substitution} {v : ℕ} (g : Images line starts σ v) (k : ℕ) (p : List ℕ) (i j : ℕ) where
-    covers_it : {s t : Sign} (x y : Atom) → LiteralAt depth p i v (lit s x) → LiteralAt depth p j v (lit t y) → T (covers_at depth p (atom_at p i) line starts p (atom_at p j) starts) ↔ Covers (fill_atom σ y) (fill_atom σ x)
-    covers_it {s} {t} x y c d = covers_meet depth g g p p _ _ y (sign_at_lem depth p t y d) x (sign_at_lem depth p s x c)
+    fits_it : {s t : Sign} (x y : Atom) → LiteralAt depth p i v (lit s x) → LiteralAt depth p j v (lit t y) → T (fits_at depth p (atom_at p i) line starts p (atom_at p j) starts) ↔ Fits (fill_atom σ x) (fill_atom σ y)
+    fits_it {s} {t} x y c d = fits_meet depth g g x y (sign_at_lem depth p s x c) (sign_at_lem depth p t y d)
 
     pub fac_judged : (l m : Literal) → LiteralAt depth p i v l → LiteralAt depth p j v m → (a b : ℕ) → eqb a b ≡ eqb i j → (r r' : Clause) →
         row_at depth Fac k p i line starts p j starts ≡ judged_of (conclude_fac a b (fill_literal σ l) r (fill_literal σ m) r')
     unfolding row_at found_by factored agrees_by same_sign_at conclude_fac on_plus on_minus fill_literal Holds
     fac_judged (lit Positive x) (lit Positive y) c d a b e r r' =
-        rw e (right_signs (eqb i j) _ _ (covering (fill_atom σ y) (fill_atom σ x)) r' (rw (within_here p _ (positive_at_lem depth p x c).stands.within, within_here p _ (positive_at_lem depth p y d).stands.within)) (covers_it x y c d))
+        rw e (right_signs (eqb i j) _ _ (fitting (fill_atom σ x) (fill_atom σ y)) r' (rw (within_here p _ (positive_at_lem depth p x c).stands.within, within_here p _ (positive_at_lem depth p y d).stands.within)) (fits_it x y c d))
     fac_judged (lit Negative x) (lit Negative y) c d a b e r r' =
-        rw e (right_signs (eqb i j) _ _ (covering (fill_atom σ y) (fill_atom σ x)) r (rw (within_past p _ (not_positive depth p x c), within_here p _ (negative_at_lem depth p x c).stands.within, within_here p _ (negative_at_lem depth p y d).stands.within)) (covers_it x y c d))
+        rw e (right_signs (eqb i j) _ _ (fitting (fill_atom σ x) (fill_atom σ y)) r (rw (within_past p _ (not_positive depth p x c), within_here p _ (negative_at_lem depth p x c).stands.within, within_here p _ (negative_at_lem depth p y d).stands.within)) (fits_it x y c d))
     fac_judged (lit Positive x) (lit Negative y) c d a b e r r' = rw e (other_signs (eqb i j) _ _ (no_sign p i j (inr (not_positive depth p y d)) (inl (not_negative depth p x c))) ∙ never (eqb i j))
     fac_judged (lit Negative x) (lit Positive y) c d a b e r r' = rw e (other_signs (eqb i j) _ _ (no_sign p i j (inl (not_positive depth p x c)) (inr (not_negative depth p y d))) ∙ never (eqb i j))
 

@@ -10,18 +10,19 @@ use lib.ListN.{length, take}
 use Rattle.logic.specs.declared.Link.TheVariants.{Eq, Mem, Sub}
 use Rattle.logic.specs.declared.Arrow.{Arrow}
 use Rattle.logic.specs.declared.Arrow.TheVariants.{Sv, Si, Mv, Mi, St, Mt}
-use Rattle.logic.specs.Syntax.{Term, var, app, Terms, Result, value, none, may_be_none, part, Atom, link, obj, arrows, method}
+use Rattle.logic.specs.Syntax.{Term, var, app, Terms, Result, value, none, may_be_none, part, only, also, Atom, link, obj, arrows, method}
 use Rattle.logic.specs.Terms.{terms_of}
 use Rattle.logic.specs.Equality.{arrow?, nth_arrow, arrow_number, arrow_back}
 use Rattle.logic.specs.Each.{terms_width}
-use Rattle.logic.specs.Fill.{Substitution, fill_result, fill_part, fill_atom}
+use Rattle.logic.specs.Fill.{Substitution, fill_result, fill_part, fill_parts, fill_atom}
 use Rattle.logic.specs.Rules.{bare_result, bare_part, bare, Covers}
 use Rattle.logic.proofs.Filling.{arrow_fill}
 use Rattle.text.specs.Words.{bytes}
 use Rattle.text.specs.Write.{word, put_term, put_result, put_part, put_atom}
 use Rattle.text.specs.Read.{bad, got, strip}
 use Rattle.text.specs.Access.{skip_item}
-use Rattle.text.specs.Form.{formed_result, formed_part, formed_atom}
+use Rattle.text.specs.Form.{formed_result, formed_part, formed_parts, formed_atom}
+use Rattle.text.specs.Figures.{few_parts}
 use Rattle.text.specs.Heads.{arrow_kind, kind_number, head}
 use Rattle.text.proofs.Heads.{after_head, strip_same}
 use Rattle.text.proofs.Nesting.{skip_term}
@@ -39,12 +40,13 @@ use Rattle.clauses.proofs.Places.{within}
 use Rattle.filling.proofs.Covers.{head_at, bare_at, covers_at}
 
 module _ (depth : ℕ) where
-  -- An atom that stands at a place of p, formed, its variables below w.
+  -- An atom that stands at a place of p, formed, with few parts, its variables below w.
   pub record AtomAt (p : List ℕ) (at : ℕ) (w : ℕ) (x : Atom) : Type 0 where
     pub rest : List ℕ
     pub stands : Stands p at (put_atom x rest)
     pub formed : T (formed_atom depth x)
     pub narrow : terms_width (terms_of x) ≤ w
+    pub few : T (few_parts x)
 
 -- An arrow's kind tells the arrow.
 kind_arrow : (a b : Arrow) → arrow_kind a ≡ arrow_kind b → a ≡ b
@@ -78,15 +80,17 @@ no_term_none (app n ts) rest = refl
 unfoldable empty : Atom → Bool
 empty (link l t u) = false
 empty (obj t) = false
-empty (arrows o (part a m ts (value r))) = false
-empty (arrows o (part a m ts none)) = true
+empty (arrows o (only (part a m ts (value r)))) = false
+empty (arrows o (only (part a m ts none))) = true
+empty (arrows o (also p ps)) = false
 
 -- What is bare but not with none is as it was.
 bare_full : (x y : Atom) → empty y ≡ false → bare x ≡ y → x ≡ y
 unfolding empty bare bare_part bare_result
 bare_full (link l t u) y h e = e
 bare_full (obj t) y h e = e
-bare_full (arrows o (part a m ts r)) y h e = go (may_be_none a) e
+bare_full (arrows o (also p ps)) y h e = e
+bare_full (arrows o (only (part a m ts r))) y h e = go (may_be_none a) e
   where
     go : (b : Bool) → method a o m ts (bare_result b r) ≡ y → method a o m ts r ≡ y
     go true e = absurd (true≢false (ap empty e ∙ h))
@@ -114,27 +118,30 @@ module _ (p : List ℕ) where
   full_past (link Mem t u) rest h s = rw (ap (take 4) s.bytes_there) (spaced_past (bytes "(mem") _ s)
   full_past (link Sub t u) rest h s = rw (ap (take 4) s.bytes_there) (spaced_past (bytes "(sub") _ s)
   full_past (obj t) rest h s = rw (ap (take 4) s.bytes_there) (spaced_past (bytes "(obj") _ s)
-  full_past (arrows o (part a m ts (value r))) rest h s =
+  full_past (arrows o (also p ps)) rest h s = rw (ap (take 4) s.bytes_there) (spaced_past (bytes "(mol") _ s)
+  full_past (arrows o (only (part a m ts (value r)))) rest h s =
       rw (ap (take 4) s.bytes_there, arrow_head a o m ts (value r) rest)
       (strip_past p (bytes "none") (result_stands p o a m ts (value r) rest (head_stands p (method a o m ts (value r)) rest s)) (no_term_none r (word ")" rest)))
-  full_past (arrows o (part a m ts none)) rest h s = absurd (true≢false h)
+  full_past (arrows o (only (part a m ts none))) rest h s = absurd (true≢false h)
 
-T_or : (a b : Bool) → T (a || b) ↔ (T a ⊎ T b)
+pub T_or : (a b : Bool) → T (a || b) ↔ (T a ⊎ T b)
 T_or true b = (λ t. inl tt, λ t. tt)
 T_or false b = (λ t. inr t, λ t. ⊎_elim (λ f. absurd f) (λ u. u) t)
 
 -- Filling and baring keep the kind.
 fill_kind : (σ : Substitution) (x : Atom) → kind_number (fill_atom σ x) ≡ kind_number x
-unfolding kind_number fill_atom
+unfolding kind_number fill_atom fill_parts
 fill_kind σ (link l t u) = refl
 fill_kind σ (obj t) = refl
-fill_kind σ (arrows o p) = ap arrow_kind (arrow_fill σ p)
+fill_kind σ (arrows o (only p)) = ap arrow_kind (arrow_fill σ p)
+fill_kind σ (arrows o (also p ps)) = refl
 
 bare_kind : (x : Atom) → kind_number (bare x) ≡ kind_number x
 unfolding kind_number bare bare_part
 bare_kind (link l t u) = refl
 bare_kind (obj t) = refl
-bare_kind (arrows o (part a m ts r)) = refl
+bare_kind (arrows o (only (part a m ts r))) = refl
+bare_kind (arrows o (also p ps)) = refl
 
 pub arrow_range : (a : Arrow) → (3 < arrow_kind a) × (arrow_kind a < 10)
 arrow_range = elim [
@@ -147,11 +154,12 @@ arrow_range = elim [
 ]
 
 empty_fill : (σ : Substitution) (x : Atom) → empty (fill_atom σ x) ≡ empty x
-unfolding empty fill_atom fill_part fill_result
+unfolding empty fill_atom fill_parts fill_part fill_result
 empty_fill σ (link l t u) = refl
 empty_fill σ (obj t) = refl
-empty_fill σ (arrows o (part a m ts (value r))) = refl
-empty_fill σ (arrows o (part a m ts none)) = refl
+empty_fill σ (arrows o (only (part a m ts (value r)))) = refl
+empty_fill σ (arrows o (only (part a m ts none))) = refl
+empty_fill σ (arrows o (also p ps)) = refl
 
 module _ (depth : ℕ) where
   module _ {line starts others : List ℕ} {σ τ : Substitution} {v w : ℕ} (g : Images line starts σ v) (h : Images line others τ w) (p q : List ℕ) where
@@ -178,10 +186,10 @@ module _ (depth : ℕ) where
 
       other_bare : (b : Atom) → AtomAt depth q y w b → (arrow_kind c ≡ kind_number b → ⊥) → T (bare_at depth p x line starts q y others) ↔ (bare (fill_atom τ b) ≡ fill_atom σ (method c o m ts none))
       unfolding calls_at kind_number
-      other_bare b j n = rw (none_bytes, within_past q _ (head_past q (arrow_kind c) b j.rest (arrow_range c).1 n j.stands)) (λ t. absurd t, λ e. absurd (n (sym (fill_kind σ (method c o m ts none)) ∙ (ap kind_number (sym e) ∙ (bare_kind (fill_atom τ b) ∙ fill_kind τ b)))))
+      other_bare b j n = rw (none_bytes, within_past q _ (head_past q (arrow_kind c) b j.rest (omega (arith, (arrow_range c).1)) n j.stands)) (λ t. absurd t, λ e. absurd (n (sym (fill_kind σ (method c o m ts none)) ∙ (ap kind_number (sym e) ∙ (bare_kind (fill_atom τ b) ∙ fill_kind τ b)))))
 
       same_bare : (o' m' : Term) (ts' : Terms) (r' : Result) → AtomAt depth q y w (method c o' m' ts' r') → T (bare_at depth p x line starts q y others) ↔ (bare (fill_atom τ (method c o' m' ts' r')) ≡ fill_atom σ (method c o m ts none))
-      unfolding bare bare_part bare_result fill_atom fill_part fill_result kind_number after_head formed_atom formed_part formed_result
+      unfolding bare bare_part bare_result fill_atom fill_parts fill_part fill_result kind_number after_head formed_atom formed_parts formed_part formed_result
       same_bare o' m' ts' r' j =
           let s = head_stands q (method c o' m' ts' r') j.rest j.stands in
           let d = calls_meet depth g h (call_stands depth c o m ts none i.rest here i.formed i.narrow) (call_stands depth c o' m' ts' r' j.rest s j.formed j.narrow) in
@@ -197,7 +205,8 @@ module _ (depth : ℕ) where
       unfolding kind_number
       none_bare (link l t u) j = other_bare (link l t u) j (λ e. link_arrow l c (sym e))
       none_bare (obj t) j = other_bare (obj t) j (λ e. omega (arith, (arrow_range c).0))
-      none_bare (arrows o' (part c' m' ts' r')) j = go (arrow? c' c)
+      none_bare (arrows o' (also q' qs')) j = other_bare (arrows o' (also q' qs')) j (λ e. omega (arith, (arrow_range c).1))
+      none_bare (arrows o' (only (part c' m' ts' r'))) j = go (arrow? c' c)
         where
           go : Dec (c' ≡ c) → T (bare_at depth p x line starts q y others) ↔ (bare (fill_atom τ (method c' o' m' ts' r')) ≡ fill_atom σ (method c o m ts none))
           go (yes e) = rw e (same_bare o' m' ts' r' (rw e at j))
@@ -229,5 +238,6 @@ module _ (depth : ℕ) where
       unfolding empty
       covers_meet (link l t u) i = covers_full (link l t u) refl i
       covers_meet (obj t) i = covers_full (obj t) refl i
-      covers_meet (arrows o (part a m ts (value r))) i = covers_full (method a o m ts (value r)) refl i
-      covers_meet (arrows o (part a m ts none)) i = covers_none a o m ts i
+      covers_meet (arrows o (only (part a m ts (value r)))) i = covers_full (method a o m ts (value r)) refl i
+      covers_meet (arrows o (only (part a m ts none))) i = covers_none a o m ts i
+      covers_meet (arrows o (also p' ps)) i = covers_full (arrows o (also p' ps)) refl i

@@ -9,7 +9,7 @@ use lib.Dec.{T, eqb, eqb→eq, ltb→lt, leb, le→leb}
 use lib.ListN.{length, drop, get_or}
 use Rattle.logic.specs.declared.Link.TheVariants.{Sub}
 use Rattle.logic.specs.declared.Rule.{Rule}
-use Rattle.logic.specs.declared.Rule.TheVariants.{Refl, Res, Fac, Par, Acy, Tra, Inc, Inh, Inp, Out, Sca, Eli}
+use Rattle.logic.specs.declared.Rule.TheVariants.{Refl, Res, Fac, Par, Acy, Tra, Inc, Inh, Inp, Out, Sca, Eli, Mer, Pro}
 use Rattle.std.specs.Prelude.{Err}
 use Rattle.logic.specs.declared.Check.{Check}
 use Rattle.logic.specs.StepChecks.{Checked}
@@ -44,7 +44,7 @@ use Rattle.rules.proofs.Literals.{PartOf}
 use Rattle.rules.proofs.Concluded.{ClaimAt, concluded}
 use Rattle.rules.proofs.RowsMeet.{refl_meets}
 use Rattle.rules.proofs.StepMeets.{given_over, two_meets}
-use Rattle.rules.proofs.RuleMeets.{bare, no_over, no_others, res_two, acy_two, sca_two, tra_two, inc_two, inh_two, inp_two, out_two, par_two, eli_answers, fac_answers}
+use Rattle.rules.proofs.RuleMeets.{bare, no_over, no_others, res_two, acy_two, sca_two, tra_two, inc_two, inh_two, inp_two, out_two, par_two, mer_two, eli_answers, pro_answers, fac_answers}
 use Rattle.clauses.proofs.Places.{place_at, list_at}
 
 module _ (depth : ℕ) where
@@ -86,8 +86,10 @@ module _ (depth : ℕ) where
     conclude_meets Inp P Q G H o o' = two_meets depth (parent cs true a σ) (parent cs true b τ) (P tt) (Q tt) G H at o o' image (inp_two depth (parent cs true a σ) (parent cs true b τ) G H i j k)
     conclude_meets Out P Q G H o o' = two_meets depth (parent cs true a σ) (parent cs true b τ) (P tt) (Q tt) G H at o o' image (out_two depth (parent cs true a σ) (parent cs true b τ) G H i j k)
     conclude_meets Sca P Q G H o o' = two_meets depth (parent cs true a σ) (parent cs true b τ) (P tt) (Q tt) G H at o o' image (sca_two depth (parent cs true a σ) (parent cs true b τ) G H i j k)
+    conclude_meets Mer P Q G H o o' = two_meets depth (parent cs true a σ) (parent cs true b τ) (P tt) (Q tt) G H at o o' image (mer_two depth (parent cs true a σ) (parent cs true b τ) G H i j k)
     conclude_meets Fac P Q G H o o' = fac_answers depth (parent cs true a σ) τ p line starts (P tt) G at o image i j k
     conclude_meets Eli P Q G H o o' = eli_answers depth (parent cs true a σ) τ p line starts (P tt) G at o image i j k (place_at p j)
+    conclude_meets Pro P Q G H o o' = pro_answers depth (parent cs true a σ) τ p line starts (P tt) G at o image i j k (place_at p j)
 
 -- A list without places gives as much to a clause without variables.
 images_for : (line starts : List ℕ) (σ : Substitution) (n w : ℕ) → (0 < w → 0 < n) → Images line starts σ w → Images line (filling_places n starts) σ w
@@ -135,7 +137,7 @@ module _ (depth : ℕ) where
   module _ {p : ParentAt} (cs : List Clause) (n : ℕ) (h : n < length cs → HoldsClause depth p (get_or cs n [])) where
     part_of : (used : Bool) → T (below (length cs) used n) → T used → PartOf depth p.clause (get_or cs n [])
     unfolding below
-    part_of true b u = let H = h (ltb→lt n (length cs) b) in record { rest = H.rest; written = H.written; formed = H.formed }
+    part_of true b u = let H = h (ltb→lt n (length cs) b) in record { rest = H.rest; written = H.written; formed = H.formed; few = H.few }
     part_of false b u = elim u [ ]
 
     width_of : (used : Bool) → T (below (length cs) used n) → cond used p.width 0 ≡ width (parent_clause cs used n)

@@ -16,9 +16,12 @@ use Rattle.text.specs.Access.{skip_item, pass_item, to_item, opening, to_argumen
 use Rattle.text.proofs.Gives.{Gives, nothing, gives}
 use Rattle.text.proofs.Positions.{End, end_drop, Tail, strip_tail, skip_tail, item_tail}
 use Rattle.clauses.specs.Shapes.{literal, next, positive, negative, first_or, atom, link, denied, object, scalar, signature, result_of, value_of, argument_of, same_sign, is_sv, same_arrow}
+use Rattle.clauses.specs.Parts.{molecule, arrow_head, arrow_object, object_of}
 use Rattle.clauses.proofs.Places.{strip_at, skip_at, next_at, argument_at, place_at, positive_at, negative_at, first_at, or_place, if_place, result_at, value_at, object_at, scalar_at, signature_at, denied_at, method_argument_at, link_at, occurrence_at, within, same_sign_at, atom_at, same_arrow_at}
 use Rattle.clauses.proofs.Placing.{Stands, none_past, or_else_here, or_else_past, if_place_here, if_place_past}
 use Rattle.rules.proofs.Answered.{within_here, within_past}
+use Rattle.rules.proofs.RowPlaces.{object_place}
+use Rattle.rules.proofs.Tails.{object_tail}
 use Rattle.rules.proofs.Targets.{argument_tail}
 use Rattle.rules.proofs.ParMeets.{occurrence_tail}
 
@@ -166,6 +169,15 @@ module _ (p : List ℕ) where
   pub value_walk : Walks p (value_at p) value_of
   unfolding value_at value_of
   value_walk = then_walk result_walk opening_walk
+
+  -- The object of an arrow atom or a molecule, and of a molecule.
+  pub object_walk : Walks p (object_place p) object_of
+  unfolding object_place object_of molecule arrow_object arrow_head first_or strip
+  object_walk = one_walk object_of object_tail refl
+
+  pub molecule_walk : Walks p (strip_at p (bytes "(mol ")) molecule
+  unfolding molecule
+  molecule_walk = strip_walk 40 _
 
   no_argument : (k : ℕ) → to_argument k [] ≡ bad
   unfolding to_argument strip

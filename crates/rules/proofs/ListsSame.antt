@@ -86,7 +86,7 @@ unfolding entry_of
 later_entry s at more n = let e : suc n + 1 ≡ suc (n + 1) = omega arith in rw e
 
 -- The entries from a place on.
-entries_from : (s : List ℕ) (k at : ℕ) (n : ℕ) → entry_of s (places s (suc k) at) n ≡ get_or (items k (drop at s)) n []
+entries_from : (s : List ℕ) (k at : ℕ) (n : ℕ) → entry_of s (places s (suc k) at) n ≡ get_or (items next_entry k (drop at s)) n []
 unfolding places items end_of one_more
 entries_from s zero at n = one_place s at n
 entries_from s (suc k) at n = go (entries_from s k) (next_view s at)
@@ -95,13 +95,13 @@ entries_from s (suc k) at n = go (entries_from s k) (next_view s at)
     stops zero = ap (λ ps. entry_of s (at ∷ ps) zero) (places_past s (suc k)) ∙ unended s at (replicate k (length s + 1))
     stops (suc n) = later_entry s at (places s (suc k) (length s + 1)) n ∙ (ap (λ ps. entry_of s ps n) (places_past s (suc k)) ∙ past_entry s (suc k) n)
 
-    goes_on : ((at n : ℕ) → entry_of s (places s (suc k) at) n ≡ get_or (items k (drop at s)) n []) → {rest : List ℕ} → at + 1 ≤ length s - length rest → drop (length s - length rest) s ≡ rest → (n : ℕ) →
-        entry_of s (at ∷ places s (suc k) (length s - length rest)) n ≡ get_or (take (length s - length rest - (at + 1)) (drop (at + 1) s) ∷ items k rest) n []
+    goes_on : ((at n : ℕ) → entry_of s (places s (suc k) at) n ≡ get_or (items next_entry k (drop at s)) n []) → {rest : List ℕ} → at + 1 ≤ length s - length rest → drop (length s - length rest) s ≡ rest → (n : ℕ) →
+        entry_of s (at ∷ places s (suc k) (length s - length rest)) n ≡ get_or (take (length s - length rest - (at + 1)) (drop (at + 1) s) ∷ items next_entry k rest) n []
     goes_on more {rest} h d zero = first_entry s at (length s - length rest) _ h (omega arith)
-    goes_on more {rest} h d (suc n) = later_entry s at (places s (suc k) (length s - length rest)) n ∙ (more (length s - length rest) n ∙ ap (λ bs. get_or (items k bs) n []) d)
+    goes_on more {rest} h d (suc n) = later_entry s at (places s (suc k) (length s - length rest)) n ∙ (more (length s - length rest) n ∙ ap (λ bs. get_or (items next_entry k bs) n []) d)
 
-    go : ((at n : ℕ) → entry_of s (places s (suc k) at) n ≡ get_or (items k (drop at s)) n []) → {q : Parsed (Unit {0})} {r : Parsed (List ℕ)} → Next s at q r →
-        entry_of s (at ∷ places s (suc k) (end_of s q)) n ≡ get_or (one_more (items k) r) n []
+    go : ((at n : ℕ) → entry_of s (places s (suc k) at) n ≡ get_or (items next_entry k (drop at s)) n []) → {q : Parsed (Unit {0})} {r : Parsed (List ℕ)} → Next s at q r →
+        entry_of s (at ∷ places s (suc k) (end_of s q)) n ≡ get_or (one_more (items next_entry k) r) n []
     go more no_next = stops n
     go more (a_next h w d) = goes_on more h d n
 
@@ -110,12 +110,12 @@ list_same : (line : List ℕ) (at n : ℕ) → entry_of line (list_at line at) n
 unfolding list_at strip_at entries items next_entry strip one_more after
 list_same line at n = go (land line at (strip_tail (bytes "(let")))
   where
-    no_items : (k : ℕ) → items k [] ≡ []
+    no_items : (k : ℕ) → items next_entry k [] ≡ []
     no_items zero = refl
     no_items (suc k) = refl
 
-    go : {x : ℕ} {q : Parsed (Unit {0})} → Lands line x q → entry_of line (places line 33 x) n ≡ get_or (items 32 (after q)) n []
-    go {x} (lands s) = entries_from line 32 x n ∙ ap (λ bs. get_or (items 32 bs) n []) s.bytes_there
+    go : {x : ℕ} {q : Parsed (Unit {0})} → Lands line x q → entry_of line (places line 33 x) n ≡ get_or (items next_entry 32 (after q)) n []
+    go {x} (lands s) = entries_from line 32 x n ∙ ap (λ bs. get_or (items next_entry 32 bs) n []) s.bytes_there
     go {x} (lost e) =
         ap (λ y. entry_of line (places line 33 y) n) e
         ∙ (ap (λ ps. entry_of line ps n) (places_past line 33) ∙ (past_entry line 33 n ∙ sym (ap (λ es. get_or es n []) (no_items 32))))

@@ -11,9 +11,10 @@ use Rattle.logic.specs.Syntax.{Literal, lit, Clause}
 use Rattle.logic.specs.Each.{width}
 use Rattle.logic.specs.Fill.{Substitution, fill_literal, fill_clause}
 use Rattle.logic.specs.Judge.{Conclusion, misshapen, on_at}
-use Rattle.logic.proofs.Both.{left, right}
+use Rattle.logic.proofs.Both.{left, right, both}
 use Rattle.text.specs.Words.{bytes}
 use Rattle.text.specs.Write.{word, put_literal, put_literals, put_clause}
+use Rattle.text.specs.Figures.{few_parts, few_parts_all}
 use Rattle.text.specs.Form.{formed_literal, formed_clause}
 use Rattle.text.specs.Read.{Parsed, bad, got}
 use Rattle.text.specs.Access.{to_item, skip_item}
@@ -28,11 +29,24 @@ use Rattle.rules.proofs.Meets.{Images, LiteralAt}
 use Rattle.clauses.proofs.Places.{place_at}
 
 module _ (depth : ℕ) where
-  -- A part of the text that begins with a clause, formed.
+  -- A part of the text that begins with a clause, formed, its molecules with few parts.
   pub record PartOf (p : List ℕ) (c : Clause) : Type 0 where
     pub rest : List ℕ
     pub written : p ≡ put_clause c rest
     pub formed : T (formed_clause depth c)
+    pub few : T (few_parts_all c)
+
+-- The literal at a position has few parts.
+few_at : (n : ℕ) (c : Clause) {l : Literal} {cs : Clause} → drop n c ≡ l ∷ cs → T (few_parts_all c) → T (few_parts_all (l ∷ []))
+unfolding few_parts_all
+few_at zero [] e h = cc
+few_at (suc n) [] e h = cc
+few_at zero (lit g x ∷ c) e h = subst first_few e (both (few_parts x) true (left (few_parts x) (few_parts_all c) h) tt)
+  where
+    first_few : Clause → Type 0
+    first_few [] = Unit
+    first_few (l ∷ cs) = T (few_parts_all (l ∷ []))
+few_at (suc n) (lit g x ∷ c) e h = few_at n c e (right (few_parts x) (few_parts_all c) h)
 
 -- Without literal n: what "the other literals" are.
 abbrev pub without : ℕ → Clause → Clause
@@ -139,6 +153,7 @@ module _ (depth : ℕ) where
           stands = item_stands c P.rest P.written n d;
           formed = w.0;
           narrow = w.1;
+          few = few_at n c d P.few;
         }
 
     pub place_past : {c : Clause} → PartOf depth p c → (n : ℕ) → drop n c ≡ [] → place_at p n ≡ length p + 1

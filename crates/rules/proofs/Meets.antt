@@ -11,6 +11,7 @@ use Rattle.logic.specs.Rules.{Agreement}
 use Rattle.logic.specs.Judge.{Conclusion, concludes}
 use Rattle.text.specs.Write.{put_literal, put_literals}
 use Rattle.text.specs.Form.{numbered, formed_literal}
+use Rattle.text.specs.Figures.{few_parts_all}
 use Rattle.clauses.proofs.Places.{strip_at}
 use Rattle.clauses.proofs.Placing.{Stands}
 use Rattle.filling.proofs.Grounds.{Entries}
@@ -24,12 +25,13 @@ pub record Images (line starts : List ℕ) (σ : Substitution) (w : ℕ) : Type 
   pub numbers : (v : ℕ) → v < w → T (numbered (σ v))
 
 module _ (depth : ℕ) where
-  -- A literal that stands at a place of p, formed, its variables below w.
+  -- A literal that stands at a place of p, formed, its molecule with few parts, its variables below w.
   pub record LiteralAt (p : List ℕ) (at : ℕ) (w : ℕ) (l : Literal) : Type 0 where
     pub rest : List ℕ
     pub stands : Stands p at (put_literal l rest)
     pub formed : T (formed_literal depth l)
     pub narrow : width (l ∷ []) ≤ w
+    pub few : T (few_parts_all (l ∷ []))
 
   -- Checks 9 and 10 answer what the conclusion says, and where it has a new literal, that is what is expected, in whatever bytes.
   pub record Meets (rule : Rule) (k : ℕ) (p : List ℕ) (i : ℕ) (line starts q : List ℕ) (j : ℕ) (others : List ℕ) (c : Conclusion) : Type 0 where

@@ -79,7 +79,7 @@ module _ (depth : ℕ) where
 
   module _ (p line starts q others : List ℕ) (σ τ : Substitution) (v w : ℕ) (images : Images line starts σ v) (images' : Images line others τ w) where
     -- Terms agree as lists of one.
-    agrees_one : {x y : ℕ} {t s : Term} → TermAt depth p x v t → TermAt depth q y w s → T (agree_at depth p x line starts q y others) ↔ Holds (equal (one (fill σ t)) (one (fill τ s)))
+    pub agrees_one : {x y : ℕ} {t s : Term} → TermAt depth p x v t → TermAt depth q y w s → T (agree_at depth p x line starts q y others) ↔ Holds (equal (one (fill σ t)) (one (fill τ s)))
     unfolding Holds
     agrees_one {t} {s} a b = let e = term_meets depth images images' a b in (λ h. ap one (e.0 h), λ h. e.1 cc)
 

@@ -15,11 +15,11 @@ use Rattle.logic.specs.declared.Arrow.TheVariants.{Sv, Si, Mv, Mi, St, Mt}
 use Rattle.logic.specs.declared.Rule.TheVariants.{Refl, Acy, Sca}
 use Rattle.std.specs.Prelude.{Err}
 use Rattle.logic.specs.declared.Check.{Check}
-use Rattle.logic.specs.Syntax.{Term, var, Terms, cons, Result, value, none, part, arrow_of, Atom, link, obj, arrows, method, Literal, lit}
+use Rattle.logic.specs.Syntax.{Term, var, Terms, cons, Result, value, none, part, arrow_of, only, also, Atom, link, obj, arrows, method, Literal, lit}
 use Rattle.logic.specs.Terms.{terms_of}
 use Rattle.logic.specs.Equality.{link?}
 use Rattle.logic.specs.Each.{term_width, width}
-use Rattle.logic.specs.Fill.{Substitution, fill, fills, fill_result, fill_part, fill_atom, fill_literal}
+use Rattle.logic.specs.Fill.{Substitution, fill, fills, fill_result, fill_part, fill_parts, fill_atom, fill_literal}
 use Rattle.logic.specs.Rules.{always, equal, call, alike, Holds, scalar, one, plus}
 use Rattle.logic.specs.Judge.{Conclusion, misshapen, with_new, on_plus, on_link, on_sub, on_result, on_method, on_scalar, conclude_acy, conclude_sca, table_row, holds?}
 use Rattle.text.specs.Words.{bytes}
@@ -30,7 +30,7 @@ use Rattle.text.proofs.Heads.{after_head}
 use Rattle.text.proofs.Tests.{T_and}
 use Rattle.clauses.proofs.Places.{strip_at, next_at, positive_at, first_at, value_at, object_at}
 use Rattle.clauses.proofs.Placing.{Stands, positive_stands, negative_past, head_stands, head_past, next_term, inner, either_stands, either_past, past_inner, value_of, value_none, past_value}
-use Rattle.rules.proofs.Targets.{kind_link, link_object, link_arrow, link_past, past_link, past_positive, past_second}
+use Rattle.rules.proofs.Targets.{kind_link, link_object, link_molecule, link_arrow, link_past, past_link, past_positive, past_second}
 use Rattle.rules.proofs.Answered.{judged_of, within_here, within_past, right_shape}
 use Rattle.rules.proofs.Meets.{Images, LiteralAt, Meets}
 use Rattle.rules.proofs.TermsMeet.{TermAt, CallAt, call_stands, result_at_lem, term_meets, calls_meet, linked_claimed, missing, concluding, term_deep}
@@ -80,8 +80,10 @@ module _ (depth : ℕ) where
             rw (ap link_kind e) (a_link t u (record { rest = _; stands = s; formed = ft; narrow = omega arith }) (record { rest = _; stands = next_term p t s; formed = fu; narrow = omega arith }) (λ f. refl))
         go (no e) = no_link (link_past p k (link l t u) (word ")" a.rest) (λ h. e (kind_link k l h)) atom) (λ f. refl)
     link_view k (lit Positive (obj t)) a = no_link (link_past p k (obj t) (word ")" a.rest) (link_object k) (positive_stands p (obj t) a.rest a.stands)) (λ f. refl)
-    link_view k (lit Positive (arrows o q)) a =
-        no_link (link_past p k (arrows o q) (word ")" a.rest) (link_arrow k (arrow_of q)) (positive_stands p (arrows o q) a.rest a.stands)) (λ f. refl)
+    link_view k (lit Positive (arrows o (only q))) a =
+        no_link (link_past p k (arrows o (only q)) (word ")" a.rest) (link_arrow k (arrow_of q)) (positive_stands p (arrows o (only q)) a.rest a.stands)) (λ f. refl)
+    link_view k (lit Positive (arrows o (also q qs))) a =
+        no_link (link_past p k (arrows o (also q qs)) (word ")" a.rest) (link_molecule k) (positive_stands p (arrows o (also q qs)) a.rest a.stands)) (λ f. refl)
 
 -- Two places that are both within, or one that is past.
 pub both_within : (p q : List ℕ) {x y : ℕ} → x ≤ length p → y ≤ length q → (within p x && within q y) ≡ true
@@ -161,22 +163,24 @@ module _ (depth : ℕ) where
           no_scalar (value_none p o b m ts (word ")" a.rest) (either_stands p 4 5 (method b o m ts none) (word ")" a.rest) (omega arith) k (positive_stands p (method b o m ts none) a.rest a.stands))) (λ f. refl)
 
       scalar_view : (l : Literal) → LiteralAt depth p i v l → ScalarView p i (object_at p (bytes "(sv ") (bytes "(si ") i) σ v (on_scalar (fill_literal σ l))
-      unfolding object_at first_at on_scalar on_plus on_method on_result scalar fill_literal fill_atom fill_part fill_result kind_number after_head formed_literal
+      unfolding object_at first_at on_scalar on_plus on_method on_result scalar fill_literal fill_atom fill_parts fill_part fill_result kind_number after_head formed_literal
       scalar_view (lit Negative x) a = no_scalar (ap scalar_from (negative_past p x a.rest a.stands) ∙ past_scalar) (λ f. refl)
       scalar_view (lit Positive (link l t u)) a =
           no_scalar (other_scalar (link l t u) (word ")" a.rest) (λ w. link_arrow l Sv (sym w)) (λ w. link_arrow l Si (sym w)) (positive_stands p (link l t u) a.rest a.stands)) (λ f. refl)
       scalar_view (lit Positive (obj t)) a = no_scalar (other_scalar (obj t) (word ")" a.rest) (λ w. omega arith) (λ w. omega arith) (positive_stands p (obj t) a.rest a.stands)) (λ f. refl)
-      scalar_view (lit Positive (arrows o (part Sv m ts r))) a =
+      scalar_view (lit Positive (arrows o (also q qs))) a =
+          no_scalar (other_scalar (arrows o (also q qs)) (word ")" a.rest) (λ w. omega arith) (λ w. omega arith) (positive_stands p (arrows o (also q qs)) a.rest a.stands)) (λ f. refl)
+      scalar_view (lit Positive (arrows o (only (part Sv m ts r)))) a =
           method_view Sv (inl refl) (sv (within_here p _ (head_stands p (method Sv o m ts r) (word ")" a.rest) (positive_stands p (method Sv o m ts r) a.rest a.stands)).within)) o m ts r a
-      scalar_view (lit Positive (arrows o (part Si m ts r))) a =
+      scalar_view (lit Positive (arrows o (only (part Si m ts r)))) a =
           method_view Si (inr refl) (si (within_past p _ (head_past p 4 (method Si o m ts r) (word ")" a.rest) (omega arith) (λ e. omega arith) (positive_stands p (method Si o m ts r) a.rest a.stands)))) o m ts r a
-      scalar_view (lit Positive (arrows o (part Mv m ts r))) a =
+      scalar_view (lit Positive (arrows o (only (part Mv m ts r)))) a =
           no_scalar (other_scalar (method Mv o m ts r) (word ")" a.rest) (λ w. omega arith) (λ w. omega arith) (positive_stands p (method Mv o m ts r) a.rest a.stands)) (λ f. refl)
-      scalar_view (lit Positive (arrows o (part Mi m ts r))) a =
+      scalar_view (lit Positive (arrows o (only (part Mi m ts r)))) a =
           no_scalar (other_scalar (method Mi o m ts r) (word ")" a.rest) (λ w. omega arith) (λ w. omega arith) (positive_stands p (method Mi o m ts r) a.rest a.stands)) (λ f. refl)
-      scalar_view (lit Positive (arrows o (part St m ts r))) a =
+      scalar_view (lit Positive (arrows o (only (part St m ts r)))) a =
           no_scalar (other_scalar (method St o m ts r) (word ")" a.rest) (λ w. omega arith) (λ w. omega arith) (positive_stands p (method St o m ts r) a.rest a.stands)) (λ f. refl)
-      scalar_view (lit Positive (arrows o (part Mt m ts r))) a =
+      scalar_view (lit Positive (arrows o (only (part Mt m ts r)))) a =
           no_scalar (other_scalar (method Mt o m ts r) (word ")" a.rest) (λ w. omega arith) (λ w. omega arith) (positive_stands p (method Mt o m ts r) a.rest a.stands)) (λ f. refl)
 
 -- Two arrow atoms alike but for their results.

@@ -14,26 +14,30 @@ use Rattle.logic.specs.declared.Link.TheVariants.{Mem, Sub}
 use Rattle.text.specs.Read.{Parsed, bad, got}
 use Rattle.text.specs.Access.{stood}
 use Rattle.clauses.specs.Shapes.{positive, negative, first_or, atom, same_sign}
+use Rattle.clauses.specs.Parts.{PartIn, part_at}
 use Rattle.clauses.proofs.Places.{atom_at, same_sign_at}
 use Rattle.clauses.proofs.Placing.{Stands}
 use Rattle.rule_table.specs.declared.Target as code
 use Rattle.rule_table.specs.declared.Rewriting as table
 use Rattle.rule_table.specs.declared.Target.TheVariants as target
-use Rattle.rule_table.specs.Rows.{FoundAt, nothing, covering, rewriting, crossing, calling, denied_term, behind, term_at, resolved, factored, replaced, crossed, called, denying}
+use Rattle.rule_table.specs.Rows.{FoundAt, nothing, fitting, rewriting, crossing, calling, denied_term, merging, projecting, behind, term_at, resolved, factored, replaced, crossed, called, denying, joined, with_part, projected}
 use Rattle.rules.proofs.Answered.{within_here, within_past}
 use Rattle.rules.proofs.RowPlaces as old
-use Rattle.rules.proofs.RowPlaces.{Kind, Reflexivity, Resolution, Factoring, Rewriting, Acyclicity, Scalarity, Elimination, Found}
+use Rattle.rules.proofs.RowPlaces.{Kind, Reflexivity, Resolution, Factoring, Rewriting, Acyclicity, Scalarity, Elimination, Merging, Projection, Found, is_part}
 use Rattle.rules.proofs.RowsMeet.{both_within, one_past}
-use Rattle.rules.proofs.Landing.{Lands, lands, lost, lost_walk, within_lands, Walks, then_walk, next_walk, positive_walk, negative_walk, link_walk, denied_walk, atom_walk, scalar_walk, signature_walk, value_walk, argument_walk, occurrence_walk, same_sign_lands, same_arrow_lands}
+use Rattle.rules.proofs.MoleculeRows.{no_part}
+use Rattle.rules.proofs.Landing.{Lands, lands, lost, lost_walk, within_lands, Walks, then_walk, next_walk, positive_walk, negative_walk, link_walk, denied_walk, atom_walk, scalar_walk, signature_walk, value_walk, object_walk, molecule_walk, argument_walk, occurrence_walk, same_sign_lands, same_arrow_lands}
 
 -- What was found, at the places.
 pub data Alike (p q : List ℕ) (f : Found) : FoundAt → Type 0 where
   same_none : f.kind ≡ Reflexivity → Alike p q f nothing
-  same_cover : {l r : List ℕ} → (f.kind ≡ Resolution) ⊎ (f.kind ≡ Factoring) → Stands p f.left l → Stands q f.right r → Alike p q f (covering l r)
+  same_fit : {l r : List ℕ} → (f.kind ≡ Resolution) ⊎ (f.kind ≡ Factoring) → Stands p f.left l → Stands q f.right r → Alike p q f (fitting l r)
   same_rewrite : {l t s o : List ℕ} → f.kind ≡ Rewriting → Stands p f.literal l → Stands p f.left t → Stands q f.right s → Stands q f.other o → Alike p q f (rewriting l t s o)
   same_cross : {a b c d : List ℕ} → f.kind ≡ Acyclicity → Stands p f.left a → Stands p f.more b → Stands q f.right c → Stands q f.other d → Alike p q f (crossing a b c d)
   same_call : {o r o' r' : List ℕ} {b : Bool} → f.kind ≡ Scalarity → f.arrows ≡ b → Stands p f.left o → Stands p f.more r → Stands q f.right o' → Stands q f.other r' → Alike p q f (calling b o r o' r')
   same_denied : f.kind ≡ Elimination → Alike p q f denied_term
+  same_merge : {l o r o' : List ℕ} → f.kind ≡ Merging → Stands p f.left l → Stands p f.more o → Stands q f.right r → Stands q f.other o' → Alike p q f (merging l o r o')
+  same_project : {o : List ℕ} {x : PartIn} → f.kind ≡ Projection → Stands p f.left o → part_at f.more o ≡ Some x → Alike p q f (projecting o x)
 
 pub data Same (p q : List ℕ) (f : Found) : Option FoundAt → Type 0 where
   unfound : f.shaped ≡ false → Same p q f None
@@ -106,7 +110,7 @@ module _ (p q : List ℕ) {i j : ℕ} {x y : List ℕ} (s : Stands p i x) (t : S
   resolved_same =
       find_behind _ ((negative_walk p).from (lands s)) (λ e. unfound (one_past p q _ _ (inl e))) (λ l u.
       find_behind _ ((positive_walk q).from (lands t)) (λ e. unfound (one_past p q _ _ (inr e))) (λ r v.
-      is_found (both_within p q u.within v.within) (same_cover (inl refl) u v)))
+      is_found (both_within p q u.within v.within) (same_fit (inl refl) u v)))
 
   pub crossed_same : Same p q (old.crossed p i q j) (crossed x y)
   unfolding old.crossed crossed
@@ -139,6 +143,27 @@ module _ (p q : List ℕ) {i j : ℕ} {x y : List ℕ} (s : Stands p i x) (t : S
   denying_same =
       find_behind _ ((denied_walk p).from (lands s)) (λ e. unfound (within_past p _ e)) (λ a u. is_found (within_here p _ u.within) (same_denied refl))
 
+  pub joined_same : Same p q (old.joined p i q j) (joined x y)
+  unfolding old.joined joined
+  joined_same =
+      find_behind _ ((positive_walk p).from (lands s)) (λ e. unfound (one_past p q _ _ (inl (lost_walk (object_walk p) e)))) (λ l u.
+      find_behind _ ((positive_walk q).from (lands t)) (λ e. unfound (one_past p q _ _ (inr (lost_walk (object_walk q) e)))) (λ r v.
+      find_behind _ ((object_walk p).from (lands u)) (λ e. unfound (one_past p q _ _ (inl e))) (λ o w.
+      find_behind _ ((object_walk q).from (lands v)) (λ e. unfound (one_past p q _ _ (inr e))) (λ o' z.
+      is_found (both_within p q w.within z.within) (same_merge refl u w v z)))))
+
+  -- Part k, of the object where it stands.
+  with_part_same : (k : ℕ) {o : List ℕ} (r : Option PartIn) → Stands p (old.molecule_place p i) o → part_at k o ≡ r → Same p q (old.projected k p i) (with_part o r)
+  unfolding old.projected with_part
+  with_part_same k None v e = unfound (ap is_part (ap (part_at k) v.bytes_there ∙ e))
+  with_part_same k (Some z) v e = is_found (ap is_part (ap (part_at k) v.bytes_there ∙ e)) (same_project refl v e)
+
+  pub projected_same : (k : ℕ) → Same p q (old.projected k p i) (projected k x)
+  unfolding old.projected projected old.molecule_place
+  projected_same k =
+      find_behind _ ((positive_walk p).from (lands s)) (λ e. unfound (no_part p k _ (lost_walk (molecule_walk p) e))) (λ l u.
+      find_behind _ ((molecule_walk p).from (lands u)) (λ e. unfound (no_part p k _ e)) (λ o v. with_part_same k (part_at k o) v refl))
+
 module _ (p : List ℕ) {i j : ℕ} {x y : List ℕ} (s : Stands p i x) (t : Stands p j y) where
   pub factored_same : Same p p (old.factored p i p j) (factored x y)
   unfolding old.factored factored same_sign atom
@@ -150,13 +175,13 @@ module _ (p : List ℕ) {i j : ℕ} {x y : List ℕ} (s : Stands p i x) (t : Sta
       no_atom : {k : ℕ} {z : List ℕ} → Stands p k z → stood (atom z) ≡ true → atom_at p k ≡ length p + 1 → ⊥
       no_atom {k} u a e = true≢false (sym a ∙ (sym (within_lands p ((atom_walk p).from (lands u))) ∙ within_past p (atom_at p k) e))
 
-      go : (b : Bool) → (not (eqb (length x) (length y)) && same_sign x y) ≡ b → Same p p (old.factored p i p j) (cond b (behind (atom x) (λ l. behind (atom y) (λ r. Some (covering l r)))) None)
+      go : (b : Bool) → (not (eqb (length x) (length y)) && same_sign x y) ≡ b → Same p p (old.factored p i p j) (cond b (behind (atom x) (λ l. behind (atom y) (λ r. Some (fitting l r)))) None)
       go false e = unfound (tested ∙ e)
       go true e =
           let a = sign_atoms (positive x) (positive y) (negative x) (negative y) (signed (not (eqb (length x) (length y))) e) in
           find_behind _ ((atom_walk p).from (lands s)) (λ z. absurd (no_atom s a.0 z)) (λ l u.
           find_behind _ ((atom_walk p).from (lands t)) (λ z. absurd (no_atom t a.1 z)) (λ r v.
-          is_found (tested ∙ e) (same_cover (inr refl) u v)))
+          is_found (tested ∙ e) (same_fit (inr refl) u v)))
         where
           signed : (b : Bool) → (b && same_sign x y) ≡ true → same_sign x y ≡ true
           signed true e = e

@@ -1,5 +1,5 @@
 -- Checks 9 to 11 in bytes, rule by rule, are those of the definitions.
-use Prim.Native.Nat.{ℕ, ◌+◌}
+use Prim.Native.Nat.{ℕ, zero, suc, ◌+◌}
 use mathlib.Core.Bool.{Bool, true, false, cond}
 use mathlib.Core.List.{List, [], ◌∷◌, ◌++◌, append-nil}
 use mathlib.Core.Logic.{◌⊎◌, inl, inr}
@@ -9,14 +9,14 @@ use lib.ListN.{length, drop}
 use Rattle.logic.specs.declared.Sign.TheVariants.{Positive, Negative}
 use Rattle.logic.specs.declared.Link.TheVariants.{Eq, Sub}
 use Rattle.logic.specs.declared.Rule.{Rule}
-use Rattle.logic.specs.declared.Rule.TheVariants.{Res, Fac, Par, Acy, Tra, Inc, Inh, Inp, Out, Sca, Eli}
+use Rattle.logic.specs.declared.Rule.TheVariants.{Res, Fac, Par, Acy, Tra, Inc, Inh, Inp, Out, Sca, Eli, Mer, Pro}
 use Rattle.std.specs.Prelude.{Err}
 use Rattle.logic.specs.declared.Check.{Check}
-use Rattle.logic.specs.Syntax.{Atom, link, obj, arrows, Literal, lit, Clause}
+use Rattle.logic.specs.Syntax.{Term, Parts, only, also, Atom, link, obj, arrows, Literal, lit, Clause}
 use Rattle.logic.specs.Each.{width, each_term}
 use Rattle.logic.specs.Fill.{Substitution, fill_atom, fill_literal, fill_clause}
-use Rattle.logic.specs.Rules.{uses, Agreement, always, covering, Parent, filled}
-use Rattle.logic.specs.Judge.{Conclusion, misshapen, concludes, on_plus, on_minus, on_obj, before, table_row, conclude_two, conclude_par, conclude_fac, conclude_eli, conclude, judge_conclusion}
+use Rattle.logic.specs.Rules.{uses, Agreement, always, fitting, plus, Parent, filled}
+use Rattle.logic.specs.Judge.{Conclusion, misshapen, concludes, on_plus, on_minus, on_obj, on_molecule, on_part, before, table_row, conclude_two, conclude_par, conclude_fac, conclude_eli, conclude_pro, conclude, judge_conclusion}
 use Rattle.logic.proofs.Over.{Over}
 use Rattle.text.specs.Write.{put_literals}
 use Rattle.text.specs.Form.{formed_number}
@@ -29,6 +29,7 @@ use Rattle.rules.proofs.Answered.{judged_of, within_here, within_past}
 use Rattle.rules.proofs.Meets.{Images, LiteralAt, Meets}
 use Rattle.rules.proofs.RowsMeet.{acy_meets, sca_meets, acy_past, sca_past}
 use Rattle.rules.proofs.CoverRows.{res_meets, eli_meets, fac_judged, res_past, eli_past, fac_past}
+use Rattle.rules.proofs.MoleculeRows.{mer_meets, mer_past, pro_meets, pro_past}
 use Rattle.logic.proofs.Rewriting.{aim, rewrite, tra_rewrites, inc_rewrites, inh_rewrites, inp_rewrites, out_rewrites}
 use Rattle.rules.proofs.RowPlaces.{Rewriting}
 use Rattle.rules.proofs.RowPlaces.{Target as TargetKind}
@@ -100,6 +101,10 @@ module _ (depth : ℕ) where
     unfolding uses conclude
     sca_two = table_two Sca refl refl (λ x y. sca_meets depth G H k p q x y) (λ x y. sca_past depth k p x line starts q y others)
 
+    pub mer_two : TwoParents depth Mer k A B i j p line starts q others
+    unfolding uses conclude
+    mer_two = table_two Mer refl refl (λ x y. mer_meets depth G H k p q x y) (λ x y. mer_past depth k p x line starts q y others)
+
     -- A rule that rewrites by a link + sub.
     sub_two : (rule : Rule) (target : TargetKind) (forward : Bool) → row_of rule ≡ record { kind = Rewriting; target = target; link = Sub; forward = forward } → (uses rule).b ≡ true →
         conclude A B i j k rule ≡ conclude_two A B i j (table_row k rule) → ((σ : Substitution) (l m : Literal) → table_row k rule (fill_literal σ l) m ≡ rewrite Sub forward σ (aim k rule l) m) → Aimed depth p (width A.clause) rule →
@@ -142,11 +147,11 @@ module _ (depth : ℕ) where
 
   -- The sign of the literal at I, seen from its bytes.
   module _ {p : List ℕ} {at w : ℕ} where
-    plus_dropped : (x : Atom) → LiteralAt depth p at w (lit Positive x) → (i j : ℕ) → dropped_at false p at i j ≡ j
+    plus_dropped : (x : Atom) → LiteralAt depth p at w (lit Positive x) → (i j : ℕ) → dropped_at false true p at i j ≡ j
     unfolding dropped_at
     plus_dropped x a i j = rw (within_here p (positive_at p at) (positive_stands p x a.rest a.stands).within)
 
-    minus_dropped : (x : Atom) → LiteralAt depth p at w (lit Negative x) → (i j : ℕ) → dropped_at false p at i j ≡ i
+    minus_dropped : (x : Atom) → LiteralAt depth p at w (lit Negative x) → (i j : ℕ) → dropped_at false true p at i j ≡ i
     unfolding dropped_at
     minus_dropped x a i j = rw (within_past p (positive_at p at) (negative_past p x a.rest a.stands))
 
@@ -158,6 +163,29 @@ pub no_over : (τ : Substitution) → Over formed_number formed_symbol (filled (
 unfolding filled fill_clause Over
 no_over τ = tt
 
+-- The other literals stand behind the new one.
+eli_before : (l : Literal) (r : Clause) → conclude_eli l r ≡ before (conclude_eli l []) r
+unfolding conclude_eli on_minus on_obj before
+eli_before (lit Positive x) r = refl
+eli_before (lit Negative (link l t u)) r = refl
+eli_before (lit Negative (obj t)) r = refl
+eli_before (lit Negative (arrows o ps)) r = refl
+
+part_before : (k : ℕ) (ps : Parts) (o : Term) (r : Clause) → on_part k ps (λ q. concludes always (plus (arrows o (only q)) ∷ r)) ≡ before (on_part k ps (λ q. concludes always (plus (arrows o (only q)) ∷ []))) r
+unfolding on_part before
+part_before zero (only p) o r = refl
+part_before (suc k) (only p) o r = refl
+part_before zero (also p ps) o r = refl
+part_before (suc k) (also p ps) o r = part_before k ps o r
+
+pro_before : (k : ℕ) (l : Literal) (r : Clause) → conclude_pro k l r ≡ before (conclude_pro k l []) r
+unfolding conclude_pro on_plus on_molecule before
+pro_before k (lit Negative x) r = refl
+pro_before k (lit Positive (link l t u)) r = refl
+pro_before k (lit Positive (obj t)) r = refl
+pro_before k (lit Positive (arrows o (only p))) r = refl
+pro_before k (lit Positive (arrows o (also p ps))) r = part_before k (also p ps) o r
+
 module _ (depth : ℕ) where
   pub no_others : (line q others target : List ℕ) (j : ℕ) → Expects target [] (others_at depth q 0 j line others target)
   unfolding others_at others_from put_literals
@@ -167,16 +195,16 @@ module _ (depth : ℕ) where
       (G : Images line starts A.image (width A.clause))
       {pos : ℕ} {claim : Clause} (at : ClaimAt line pos claim)
       (over : Over formed_number formed_symbol (filled A)) (image : T (each_term formed_number formed_symbol (A.image 0))) (i j k : ℕ) where
-    -- Only A's other literals, the one at d apart.
-    one_parent : (rule : Rule) (x y d : ℕ) (g : Agreement) → Expects (drop pos line) [] (new_at depth rule k p x line starts p y starts (drop pos line)) → dropped_at (uses rule).b p x i j ≡ d →
-        row_at depth rule k p x line starts p y starts ≡ judged_of (concludes g []) → conclude A (bare τ) i j k rule ≡ concludes g (fill_clause A.image (without d A.clause)) →
+    -- The new literal, if any, and A's other literals, the one at d apart.
+    one_parent : (rule : Rule) (x y d : ℕ) (g : Agreement) (new : Clause) → Expects (drop pos line) new (new_at depth rule k p x line starts p y starts (drop pos line)) → dropped_at (uses rule).b (uses rule).j p x i j ≡ d →
+        row_at depth rule k p x line starts p y starts ≡ judged_of (concludes g new) → conclude A (bare τ) i j k rule ≡ concludes g (new ++ fill_clause A.image (without d A.clause)) →
         then_claim (row_at depth rule k p x line starts p y starts) (eqb (claim_at depth rule k p (length A.clause) i x line starts p 0 j y starts (drop pos line)) (length (drop pos line))) ≡
         judge_conclusion (conclude A (bare τ) i j k rule) claim
-    one_parent rule x y d g new e row c =
+    one_parent rule x y d g new news e row c =
         let rest = fill_clause A.image (without d A.clause) in
-        let a : rest ++ [] ≡ rest = append-nil rest in
-        concluded depth rule k p (length A.clause) i x line starts p 0 j y starts [] rest [] at
-        new (rw e (part_others depth P G d (drop pos line))) (no_others line p starts (drop pos line) j) g row (rw a (given_over A (bare τ) over (no_over τ) image i j k rule c))
+        let a : new ++ (rest ++ []) ≡ new ++ rest = ap (λ z. new ++ z) (append-nil rest) in
+        concluded depth rule k p (length A.clause) i x line starts p 0 j y starts new rest [] at
+        news (rw e (part_others depth P G d (drop pos line))) (no_others line p starts (drop pos line) j) g row (rw a (given_over A (bare τ) over (no_over τ) image i j k rule c))
         ∙ ap (λ z. judge_conclusion z claim) (ap (concludes g) a ∙ sym c)
 
     abbrev Answers : Rule → ℕ → Type 0
@@ -187,29 +215,40 @@ module _ (depth : ℕ) where
     stopped : (rule : Rule) (y : ℕ) → row_at depth rule k p (place_at p i) line starts p y starts ≡ Err Check.Shape → conclude A (bare τ) i j k rule ≡ misshapen → Answers rule y
     stopped rule y e f = stops claim _ _ _ e f
 
-    -- eli: the literal at I is - obj(P).
-    eli_other : (y : ℕ) (l : Literal) (cs : Clause) → drop i A.clause ≡ l ∷ cs → ((r : Clause) → conclude_eli (fill_literal A.image l) r ≡ misshapen) → Answers Eli y
-    unfolding conclude filled judged_of
-    eli_other y l cs d h =
-        stopped Eli y ((eli_meets depth k p (place_at p i) line starts p y starts A.image l (place_here depth P i d)).judged ∙ ap judged_of (h []))
-        (at_filled A.image i A.clause conclude_eli d ∙ h (fill_clause A.image (without i A.clause)))
+    -- A rule with A only that takes the literal at I.
+    module _ (rule : Rule) (y : ℕ) (row : Literal → Conclusion) (first : dropped_at (uses rule).b (uses rule).j p (place_at p i) i j ≡ i)
+        (gives : (l : Literal) (cs : Clause) → drop i A.clause ≡ l ∷ cs → conclude A (bare τ) i j k rule ≡ before (row (fill_literal A.image l)) (fill_clause A.image (without i A.clause)))
+        (lacks : drop i A.clause ≡ [] → conclude A (bare τ) i j k rule ≡ misshapen)
+        (meets : (l : Literal) → LiteralAt depth p (place_at p i) (width A.clause) l → Meets depth rule k p (place_at p i) line starts p y starts (row (fill_literal A.image l)))
+        (past : place_at p i ≡ length p + 1 → row_at depth rule k p (place_at p i) line starts p y starts ≡ Err Check.Shape) where
+      one_taken : (l : Literal) (cs : Clause) → drop i A.clause ≡ l ∷ cs → (c : Conclusion) → row (fill_literal A.image l) ≡ c → Answers rule y
+      unfolding judged_of before
+      one_taken l cs d misshapen e =
+          stopped rule y ((meets l (place_here depth P i d)).judged ∙ ap judged_of e) (gives l cs d ∙ ap (λ z. before z (fill_clause A.image (without i A.clause))) e)
+      one_taken l cs d (concludes g new) e =
+          let M = meets l (place_here depth P i d) in
+          one_parent rule (place_at p i) y i g new (M.claimed g new e (drop pos line)) first (M.judged ∙ ap judged_of e) (gives l cs d ∙ ap (λ z. before z (fill_clause A.image (without i A.clause))) e)
 
-    eli_taken : (y : ℕ) (l : Literal) (cs : Clause) → drop i A.clause ≡ l ∷ cs → Answers Eli y
-    unfolding conclude filled conclude_eli on_minus on_obj fill_literal fill_atom new_at new_by found_by put_literals uses
-    eli_taken y (lit Negative (obj t)) cs d =
-        one_parent Eli (place_at p i) y i always (λ pos b z. refl) (minus_dropped depth (obj t) (place_here depth P i d) i j)
-        (eli_meets depth k p (place_at p i) line starts p y starts A.image (lit Negative (obj t)) (place_here depth P i d)).judged (at_filled A.image i A.clause conclude_eli d)
-    eli_taken y (lit Negative (link l t u)) cs d = eli_other y (lit Negative (link l t u)) cs d (λ r. refl)
-    eli_taken y (lit Negative (arrows o q)) cs d = eli_other y (lit Negative (arrows o q)) cs d (λ r. refl)
-    eli_taken y (lit Positive x) cs d = eli_other y (lit Positive x) cs d (λ r. refl)
+      one_meets : Answers rule y
+      one_meets = go (take_at i A.clause)
+        where
+          go : Taken i A.clause → Answers rule y
+          go (taken l cs d) = one_taken l cs d (row (fill_literal A.image l)) refl
+          go (absent d) = stopped rule y (past (place_past depth P i d)) (lacks d)
 
+    -- R19: eli, "- obj(P) at I".
     pub eli_answers : (y : ℕ) → Answers Eli y
-    unfolding conclude filled
-    eli_answers y = go (take_at i A.clause)
-      where
-        go : Taken i A.clause → Answers Eli y
-        go (taken l cs d) = eli_taken y l cs d
-        go (absent d) = stopped Eli y (eli_past depth k p (place_at p i) line starts p y starts (place_past depth P i d)) (at_none_filled A.image i A.clause conclude_eli d)
+    unfolding uses dropped_at conclude filled
+    eli_answers y =
+        one_meets Eli y (λ l. conclude_eli l []) refl (λ l cs d. at_filled A.image i A.clause conclude_eli d ∙ eli_before (fill_literal A.image l) _) (at_none_filled A.image i A.clause conclude_eli)
+        (λ l. eli_meets depth k p (place_at p i) line starts p y starts A.image l) (eli_past depth k p (place_at p i) line starts p y starts)
+
+    -- R26: pro, "+ a molecule with object P and a part K".
+    pub pro_answers : (y : ℕ) → Answers Pro y
+    unfolding uses dropped_at conclude filled
+    pro_answers y =
+        one_meets Pro y (λ l. conclude_pro k l []) refl (λ l cs d. at_filled A.image i A.clause (conclude_pro k) d ∙ pro_before k (fill_literal A.image l) _) (at_none_filled A.image i A.clause (conclude_pro k))
+        (λ l. pro_meets depth k p (place_at p i) line starts p y starts G l) (pro_past depth k p (place_at p i) line starts p y starts)
 
 -- fac: one of the two clauses that lack a literal, or none.
 data Factors (f : Clause → Clause → Conclusion) (pick : Clause → Clause → Clause) : Type 0 where
@@ -220,19 +259,19 @@ plus_factors : (i j : ℕ) (x : Atom) (m : Literal) → Factors (λ r r'. conclu
 unfolding conclude_fac on_plus
 plus_factors i j x m = go (eqb i j) m
   where
-    go : (b : Bool) (m : Literal) → Factors (λ r r'. cond b misshapen (on_plus m (λ y. concludes (covering y x) r'))) (λ r r'. r')
+    go : (b : Bool) (m : Literal) → Factors (λ r r'. cond b misshapen (on_plus m (λ y. concludes (fitting x y) r'))) (λ r r'. r')
     go true m = neither (λ r r'. refl)
-    go false (lit Positive y) = factors (covering y x) (λ r r'. refl)
+    go false (lit Positive y) = factors (fitting x y) (λ r r'. refl)
     go false (lit Negative y) = neither (λ r r'. refl)
 
 minus_factors : (i j : ℕ) (x : Atom) (m : Literal) → Factors (λ r r'. conclude_fac i j (lit Negative x) r m r') (λ r r'. r)
 unfolding conclude_fac on_minus
 minus_factors i j x m = go (eqb i j) m
   where
-    go : (b : Bool) (m : Literal) → Factors (λ r r'. cond b misshapen (on_minus m (λ y. concludes (covering y x) r))) (λ r r'. r)
+    go : (b : Bool) (m : Literal) → Factors (λ r r'. cond b misshapen (on_minus m (λ y. concludes (fitting x y) r))) (λ r r'. r)
     go true m = neither (λ r r'. refl)
     go false (lit Positive y) = neither (λ r r'. refl)
-    go false (lit Negative y) = factors (covering y x) (λ r r'. refl)
+    go false (lit Negative y) = factors (fitting x y) (λ r r'. refl)
 
 module _ (depth : ℕ) where
   module _ (A : Parent) (τ : Substitution) (p line starts : List ℕ) (P : PartOf depth p A.clause)
@@ -254,12 +293,12 @@ module _ (depth : ℕ) where
       fac_gives = at_filled A.image i A.clause _ d ∙ at_filled A.image j A.clause _ e
 
       -- Literal n is the one that the claim lacks.
-      by_factors : (n : ℕ) (pick : Clause → Clause → Clause) → dropped_at false p (place_at p i) i j ≡ n → pick (lacking i) (lacking j) ≡ lacking n →
+      by_factors : (n : ℕ) (pick : Clause → Clause → Clause) → dropped_at false true p (place_at p i) i j ≡ n → pick (lacking i) (lacking j) ≡ lacking n →
           Factors (λ r r'. conclude_fac i j (fill_literal A.image l) r (fill_literal A.image m) r') pick → FacAnswers
       unfolding judged_of uses new_at new_by found_by factored put_literals
       by_factors n pick f h (neither s) = stopped depth A τ p line starts P G at over image i j k Fac (place_at p j) (fac_row [] [] ∙ ap judged_of (s [] [])) (fac_gives ∙ s (lacking i) (lacking j))
       by_factors n pick f h (factors g s) =
-          one_parent depth A τ p line starts P G at over image i j k Fac (place_at p i) (place_at p j) n g (λ pos b z. refl) f
+          one_parent depth A τ p line starts P G at over image i j k Fac (place_at p i) (place_at p j) n g [] (λ pos b z. refl) f
           (fac_row (lacking i) (lacking j) ∙ ap judged_of (s (lacking i) (lacking j)) ∙ refl) (fac_gives ∙ s (lacking i) (lacking j) ∙ ap (concludes g) h)
 
     fac_taken : (l m : Literal) (cs ds : Clause) → drop i A.clause ≡ l ∷ cs → drop j A.clause ≡ m ∷ ds → FacAnswers

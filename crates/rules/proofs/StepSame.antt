@@ -10,7 +10,7 @@ use Rattle.std.specs.Prelude.{Option, None, Ok, Err}
 use Rattle.logic.specs.declared.Check.{Check}
 use Rattle.logic.specs.StepChecks.{Checked}
 use Rattle.logic.specs.declared.Rule.{Rule}
-use Rattle.logic.specs.declared.Rule.TheVariants.{Refl, Res, Fac, Par, Acy, Tra, Inc, Inh, Inp, Out, Sca, Eli}
+use Rattle.logic.specs.declared.Rule.TheVariants.{Refl, Res, Fac, Par, Acy, Tra, Inc, Inh, Inp, Out, Sca, Eli, Mer, Pro}
 use Rattle.logic.specs.Rules.{uses}
 use Rattle.text.specs.Words.{bytes}
 use Rattle.text.specs.Read.{Parsed}
@@ -21,14 +21,15 @@ use Rattle.clauses.proofs.Places.{strip_at, list_at}
 use Rattle.clauses.proofs.Placing.{Stands}
 use Rattle.rule_table.specs.declared.Rewriting as table
 use Rattle.rule_numbers.specs.Uses.{parent_numbers, unused_numbers}
-use Rattle.rule_table.specs.Rows.{FoundAt, row_of, behind, found_by, agrees_by, resolved, factored, replaced, crossed, called, denying}
+use Rattle.rule_table.specs.Rows.{FoundAt, row_of, behind, found_by, agrees_by, resolved, factored, replaced, crossed, called, denying, joined, projected}
 use Rattle.rules.specs.Claim.{KeptAt, new_by, literals_by, claims}
 use Rattle.rules.specs.Judging.{ParentAt, given, dropped_by, checked, conclude_by, premise, under_lists, lists_fit, settled, step_at}
 use Rattle.rules.proofs.Landing.{Lands, lands, lost, land, within_lands, literal_lands, positive_walk}
 use Rattle.rules.proofs.ListsSame.{Lists, lists_given}
 use Rattle.rules.proofs.ClaimsSame.{item, holds, Reads, then_read, landed_ahead, no_read, reflexive_read, equated_read, rewritten_read, others_read, ends_same}
-use Rattle.rules.proofs.AgreesSame.{agree_same, calls_same, covers_same}
-use Rattle.rules.proofs.RowsSame.{Alike, same_none, same_cover, same_rewrite, same_cross, same_call, same_denied, Same, unfound, is_found, old_target, old_row, resolved_same, crossed_same, called_same, replaced_same, denying_same, factored_same}
+use Rattle.rules.proofs.ExpectedSame.{merged_read, projected_read}
+use Rattle.rules.proofs.AgreesSame.{agree_same, calls_same, fits_same}
+use Rattle.rules.proofs.RowsSame.{Alike, same_none, same_fit, same_rewrite, same_cross, same_call, same_denied, same_merge, same_project, Same, unfound, is_found, old_target, old_row, resolved_same, crossed_same, called_same, replaced_same, denying_same, factored_same, joined_same, projected_same}
 use Rattle.rules.proofs.RowPlaces as old
 use Rattle.rules.proofs.RowPlaces.{Found, Rewriting, answer, row_at, found_at}
 use Rattle.rules.proofs.ClaimPlaces as claim
@@ -36,6 +37,7 @@ use Rattle.rules.proofs.ClaimPlaces.{Kept, dropped_at, claim_by, claim_at}
 use Rattle.rules.proofs.StepPlaces.{then_claim, conclude_at, filling_places, lists_at, settled_as, placed_step}
 use Rattle.rules.proofs.RowsMeet.{acy_past, sca_past}
 use Rattle.rules.proofs.CoverRows.{res_past, eli_past, fac_past}
+use Rattle.rules.proofs.MoleculeRows.{mer_past, pro_past}
 use Rattle.rules.proofs.Rewrites.{rewrites_past}
 
 abbrev kept_of : List ℕ → Option (List (List ℕ)) → ℕ → ℕ → KeptAt
@@ -59,22 +61,26 @@ module _ (depth : ℕ) (p line starts q others rest : List ℕ) {es fs : Option 
   agrees_alike : {f : Found} {g : FoundAt} → Alike p q f g → old.agrees_by depth f.kind f p line starts q others ≡ agrees_by depth (item p es) (item q fs) g
   unfolding old.agrees_by agrees_by
   agrees_alike (same_none k) = rw k refl
-  agrees_alike (same_cover (inl k) s t) = rw k (covers_same depth p line starts q others l m s t)
-  agrees_alike (same_cover (inr k) s t) = rw k (covers_same depth p line starts q others l m s t)
+  agrees_alike (same_fit (inl k) s t) = rw k (fits_same depth p line starts q others l m s t)
+  agrees_alike (same_fit (inr k) s t) = rw k (fits_same depth p line starts q others l m s t)
   agrees_alike (same_rewrite k s t u v) = rw k (agree_same depth p line starts q others l m t u)
   agrees_alike (same_cross k s t u v) = rw k (rw (agree_same depth p line starts q others l m s u, agree_same depth p line starts q others l m t v) refl)
   agrees_alike (same_call k b s t u v) = rw k (rw (b, calls_same depth p line starts q others l m s u) refl)
   agrees_alike (same_denied k) = rw k refl
+  agrees_alike (same_merge k s t u v) = rw k (agree_same depth p line starts q others l m t v)
+  agrees_alike (same_project k s e) = rw k refl
 
   new_alike : {f : Found} {g : FoundAt} → Alike p q f g → Reads rest (claim.new_by depth f.kind f p line starts q others rest) (new_by depth (item p es) (item q fs) g)
   unfolding claim.new_by new_by
   new_alike (same_none k) = rw k (reflexive_read rest depth l)
-  new_alike (same_cover (inl k) s t) = rw k (no_read rest)
-  new_alike (same_cover (inr k) s t) = rw k (no_read rest)
+  new_alike (same_fit (inl k) s t) = rw k (no_read rest)
+  new_alike (same_fit (inr k) s t) = rw k (no_read rest)
   new_alike (same_rewrite k s t u v) = rw k (rewritten_read rest depth _ (holds s l) t.bytes_there (holds v m))
   new_alike (same_cross k s t u v) = rw k (equated_read rest depth (holds s l) (holds t l))
   new_alike (same_call k b s t u v) = rw k (equated_read rest depth (holds t l) (holds v m))
   new_alike (same_denied k) = rw k (no_read rest)
+  new_alike (same_merge k s t u v) = rw k (merged_read rest depth (holds s l) (holds u m))
+  new_alike {f} (same_project k s e) = rw k (projected_read rest depth (holds s l) f.more e)
 
   -- Checks 9 to 11 of what was found.
   module _ (n i k j : ℕ) where
@@ -95,14 +101,14 @@ module _ (depth : ℕ) (p line starts q others rest : List ℕ) {es fs : Option 
 
 -- A step's checks 9 to 11, by the literals at I and J, whether they are there or not.
 module _ (depth : ℕ) (p line starts q others rest : List ℕ) {es fs : Option (List (List ℕ))} (l : Lists line starts es) (m : Lists line others fs) (k n i w j : ℕ) where
-  dropped_same : (rule : Rule) {x : ℕ} {X : Parsed (Unit {0})} → Lands p x X → dropped_at (uses rule).b p x i j ≡ dropped_by (uses rule).b X i j
+  dropped_same : (rule : Rule) {x : ℕ} {X : Parsed (Unit {0})} → Lands p x X → dropped_at (uses rule).b (uses rule).j p x i j ≡ dropped_by (uses rule).b (uses rule).j X i j
   unfolding dropped_at dropped_by
   dropped_same rule a = rw (within_lands p ((positive_walk p).from a))
 
   abbrev Concludes : Rule → ℕ → ℕ → Option FoundAt → Parsed (Unit {0}) → Type 0
   Concludes rule x y o X =
       then_claim (row_at depth rule k p x line starts q y others) (eqb (claim_at depth rule k p n i x line starts q w j y others rest) (length rest)) ≡
-      checked depth (kept_of p es n (dropped_by (uses rule).b X i j)) (kept_of q fs w j) rest o
+      checked depth (kept_of p es n (dropped_by (uses rule).b (uses rule).j X i j)) (kept_of q fs w j) rest o
 
   by_found : (rule : Rule) {x : ℕ} (y : ℕ) {X : Parsed (Unit {0})} {o : Option FoundAt} → Lands p x X → Same p q (found_at rule k p x q y) o → Concludes rule x y o X
   unfolding row_at claim_at
@@ -140,9 +146,11 @@ module _ (depth : ℕ) (p line starts q others rest : List ℕ) {es fs : Option 
   conclude_same Refl u a b = absurd (true≢false (sym u))
   conclude_same Fac u a b = absurd (true≢false (sym u))
   conclude_same Eli u a b = absurd (true≢false (sym u))
+  conclude_same Pro u a b = absurd (true≢false (sym u))
   conclude_same Res u {x} {y} a b = by_two Res a b (res_past depth k p x line starts q y others) resolved (λ xs ys s t. resolved_same p q s t)
   conclude_same Acy u {x} {y} a b = by_two Acy a b (acy_past depth k p x line starts q y others) crossed (λ xs ys s t. crossed_same p q s t)
   conclude_same Sca u {x} {y} a b = by_two Sca a b (sca_past depth k p x line starts q y others) called (λ xs ys s t. called_same p q s t)
+  conclude_same Mer u {x} {y} a b = by_two Mer a b (mer_past depth k p x line starts q y others) joined (λ xs ys s t. joined_same p q s t)
   conclude_same Par u a b = by_replaced Par _ refl a b
   conclude_same Tra u a b = by_replaced Tra _ refl a b
   conclude_same Inc u a b = by_replaced Inc _ refl a b
@@ -160,7 +168,10 @@ module _ (depth : ℕ) (p line starts rest : List ℕ) {es : Option (List (List 
       by_two depth p line starts p starts rest l l k n i w j Fac a b (fac_past depth k p x line starts p y starts) factored (λ xs ys s t. factored_same p s t)
   alone_same Eli u {x} {y} a b =
       by_one depth p line starts p starts rest l l k n i w j Eli y a (eli_past depth k p x line starts p y starts) denying (λ xs s. denying_same p p {i = x} {j = x} s s)
+  alone_same Pro u {x} {y} a b =
+      by_one depth p line starts p starts rest l l k n i w j Pro y a (pro_past depth k p x line starts p y starts) (projected k) (λ xs s. projected_same p p {i = x} {j = x} s s k)
   alone_same Res u a b = absurd (true≢false u)
+  alone_same Mer u a b = absurd (true≢false u)
   alone_same Acy u a b = absurd (true≢false u)
   alone_same Sca u a b = absurd (true≢false u)
   alone_same Par u a b = absurd (true≢false u)

@@ -14,17 +14,17 @@ use Rattle.logic.specs.declared.Arrow.{Arrow}
 use Rattle.logic.specs.declared.Arrow.TheVariants.{Sv, Si, Mv, Mi, St, Mt}
 use Rattle.logic.specs.declared.Rule.{Rule}
 use Rattle.logic.specs.declared.Rule.TheVariants.{Tra, Inc, Inh, Inp, Out}
-use Rattle.logic.specs.Syntax.{Term, Terms, nil, cons, Result, value, none, Part, part, arrow_of, Atom, link, obj, arrows, method, Literal, lit}
+use Rattle.logic.specs.Syntax.{Term, Terms, nil, cons, Result, value, none, Part, part, arrow_of, only, also, Atom, link, obj, arrows, method, Literal, lit}
 use Rattle.logic.specs.Equality.{link?, link_number, nth_link, link_back}
-use Rattle.logic.specs.Terms.{join, result_terms, part_terms, terms_of}
+use Rattle.logic.specs.Terms.{join, result_terms, part_terms, parts_terms, terms_of}
 use Rattle.logic.specs.Each.{term_width, terms_width, width}
-use Rattle.logic.specs.Fill.{Substitution, fill, fills, fill_result, fill_part}
+use Rattle.logic.specs.Fill.{Substitution, fill, fills, fill_result, fill_part, fill_parts}
 use Rattle.logic.specs.Rules.{signature, plus}
 use Rattle.logic.proofs.Rewriting.{Argument, Target, Aim, misses, hits, link_aim, result_aim, method_aim, object_aim, output_aim, input_aim, argument_aim, positive_aim, aim}
 use Rattle.logic.proofs.Both.{right}
 use Rattle.text.specs.Words.{bytes}
 use Rattle.text.specs.Write.{word, put_term, put_terms, put_arguments, put_result, put_part, put_atom, put_literal}
-use Rattle.text.specs.Form.{depth_ofs, numbereds, formed_term, formed_terms, formed_result, formed_part, formed_atom, formed_literal}
+use Rattle.text.specs.Form.{depth_ofs, numbereds, formed_term, formed_terms, formed_result, formed_part, formed_parts, formed_atom, formed_literal}
 use Rattle.text.specs.Read.{Parsed, bad, got, strip}
 use Rattle.text.proofs.Places.{end_of}
 use Rattle.text.specs.Access.{opening, to_argument, to_occurrence}
@@ -77,6 +77,9 @@ link_small = elim [ Eq ↦ omega arith | Mem ↦ omega arith | Sub ↦ omega ari
 -- A link is no object and no arrow.
 pub link_object : (k : Link) → link_kind k ≡ 3 → ⊥
 link_object k e = omega (arith, link_small k)
+
+pub link_molecule : (k : Link) → link_kind k ≡ 10 → ⊥
+link_molecule k e = omega (arith, link_small k)
 
 pub link_arrow : (k : Link) (a : Arrow) → link_kind k ≡ arrow_kind a → ⊥
 link_arrow k a e = omega (arith, link_small k, high a)
@@ -140,7 +143,7 @@ module _ (depth : ℕ) where
           filled = λ f σ v entry new h. rw (← stack_sum depth (item_depth depth)) (hole_second f σ w depth depth entry v new Positive l t u fits.0 fits.1 rest h);
         }
 
-    object_hole : (o : Term) (p : Part) → Fits depth w (arrows o p) → Hole depth w (plus (arrows o p)) rest (record { term = o; with = λ σ u. plus (arrows u (fill_part σ p)) }) (word " " (put_part p (word ")" rest)))
+    object_hole : (o : Term) (p : Part) → Fits depth w (arrows o (only p)) → Hole depth w (plus (arrows o (only p))) rest (record { term = o; with = λ σ u. plus (arrows u (only (fill_part σ p))) }) (word " " (put_part p (word ")" rest)))
     unfolding formed_atom terms_of terms_width
     object_hole o p fits =
         let (f, _) = simp T_and at fits.0 in
@@ -153,7 +156,7 @@ module _ (depth : ℕ) where
     argument_hole : (a : Arrow) (o m : Term) (ts : Terms) (r : Result) → Fits depth w (method a o m ts r) → {t : Term} {k : ℕ} {more : Terms} (c : Chosen t k ts more) →
         Hole depth w (plus (method a o m ts r)) rest (record { term = t; with = λ σ u. plus (method a (fill σ o) (fill σ m) (replaced σ u c) (fill_result σ r)) })
         (put_terms more (word ")" (word " " (put_result r (word ")" (word ")" rest))))))
-    unfolding formed_atom formed_part terms_of part_terms terms_width
+    unfolding formed_atom formed_parts formed_part terms_of parts_terms part_terms terms_width
     argument_hole a o m ts r fits c =
         let (_, ((_, g), _)) = simp T_and at fits.0 in
         record {
@@ -164,7 +167,7 @@ module _ (depth : ℕ) where
 
     result_hole : (a : Arrow) (o m : Term) (ts : Terms) (r : Term) → Fits depth w (method a o m ts (value r)) →
         Hole depth w (plus (method a o m ts (value r))) rest (record { term = r; with = λ σ u. plus (method a (fill σ o) (fill σ m) (fills σ ts) (value u)) }) (word ")" (word ")" rest))
-    unfolding formed_atom formed_part formed_result terms_of part_terms result_terms terms_width
+    unfolding formed_atom formed_parts formed_part formed_result terms_of parts_terms part_terms result_terms terms_width
     result_hole a o m ts r fits =
         let (_, (_, k)) = simp T_and at fits.0 in
         record {
@@ -257,7 +260,8 @@ module _ (depth : ℕ) where
         go (yes e) = rw e (found (here l) (word ")" (word ")" rest)) (next_term p t (head_stands p (link l t u) (word ")" rest) s)) (second_hole depth w rest l t u fits))
         go (no e) = missed (link_past p k (link l t u) (word ")" rest) (λ h. e (kind_link k l h)) s)
     link_placed k (obj t) rest fits s = missed (link_past p k (obj t) (word ")" rest) (link_object k) s)
-    link_placed k (arrows o q) rest fits s = missed (link_past p k (arrows o q) (word ")" rest) (link_arrow k (arrow_of q)) s)
+    link_placed k (arrows o (only q)) rest fits s = missed (link_past p k (arrows o (only q)) (word ")" rest) (link_arrow k (arrow_of q)) s)
+    link_placed k (arrows o (also q qs)) rest fits s = missed (link_past p k (arrows o (also q qs)) (word ")" rest) (link_molecule k) s)
 
     positive_placed : {at : ℕ} (l : Literal) (rest : List ℕ) (f : ℕ → ℕ) (g : Atom → Aim) → f (length p + 1) ≡ length p + 1 →
         ((x : Atom) (at : ℕ) → Fits depth w x → Stands p at (put_atom x (word ")" rest)) → Placed depth p (f at) w (plus x) rest (g x)) →
@@ -289,7 +293,8 @@ module _ (depth : ℕ) where
     method_placed (link l t u) rest f g e h i s =
         missed (ap f (other_signature p (link l t u) (word ")" rest) (λ w. link_arrow l St (sym w)) (λ w. link_arrow l Mt (sym w)) s) ∙ e)
     method_placed (obj t) rest f g e h i s = missed (ap f (other_signature p (obj t) (word ")" rest) (λ w. omega arith) (λ w. omega arith) s) ∙ e)
-    method_placed {at} (arrows o (part a m ts r)) rest f g e h i s = go (signature a) refl
+    method_placed (arrows o (also q qs)) rest f g e h i s = missed (ap f (other_signature p (arrows o (also q qs)) (word ")" rest) (λ w. omega arith) (λ w. omega arith) s) ∙ e)
+    method_placed {at} (arrows o (only (part a m ts r))) rest f g e h i s = go (signature a) refl
       where
         go : (b : Bool) → signature a ≡ b → Placed depth p (f (signature_from p at)) w (plus (method a o m ts r)) rest (cond b (g a o m ts r) misses)
         go true d = h a o m ts r _ i (either_stands p 8 9 (method a o m ts r) (word ")" rest) (omega arith) (signature_kind a (rw d tt)) s)
@@ -297,7 +302,7 @@ module _ (depth : ℕ) where
 
     -- The three places that are aimed at in a signature.
     pub inh_placed : Aimed Inh
-    unfolding target_place object_at aim object_aim fill_part
+    unfolding target_place object_at aim object_aim fill_parts fill_part
     inh_placed at k l rest =
         positive_placed l rest (signature_from p) _ (past_signature p) (λ x at i s. method_placed x rest (λ o. o) object_aim refl (λ a o m ts r at i v. found _ _ v (object_hole depth w rest o (part a m ts r) i)) i s)
 

@@ -13,14 +13,14 @@ use Rattle.logic.specs.declared.Rule.{Rule}
 use Rattle.std.specs.Prelude.{Err}
 use Rattle.logic.specs.declared.Check.{Check}
 use Rattle.logic.specs.Syntax.{Term, var, app, Terms, Result, value, part, link, method, Clause}
-use Rattle.logic.specs.Terms.{result_terms, part_terms, terms_of}
+use Rattle.logic.specs.Terms.{result_terms, part_terms, parts_terms, terms_of}
 use Rattle.logic.specs.Each.{term_width, terms_width}
 use Rattle.logic.specs.Fill.{Substitution, fill, fills}
 use Rattle.logic.specs.Rules.{Agreement, plus}
 use Rattle.logic.specs.Judge.{Conclusion, misshapen, concludes}
 use Rattle.text.specs.Words.{link_word}
 use Rattle.text.specs.Write.{word, put_term, put_arguments, put_result, put_part, put_atom, put_literal, put_literals}
-use Rattle.text.specs.Form.{numbered, numbereds, formed_term, formed_terms, formed_result, formed_part, formed_atom}
+use Rattle.text.specs.Form.{numbered, numbereds, formed_term, formed_terms, formed_result, formed_part, formed_parts, formed_atom}
 use Rattle.text.proofs.Plain.{in_front, term_plain}
 use Rattle.text.proofs.Tests.{T_and}
 use Rattle.text.proofs.Trees.{join_width}
@@ -64,7 +64,7 @@ module _ (depth : ℕ) where
     pub object : TermAt p x w o
     pub said : PartAt p (next_at p x) w m ts
 
-  part_stands : {p : List ℕ} {x : ℕ} {w : ℕ} (a : Arrow) (m : Term) (ts : Terms) (r : Result) (rest : List ℕ) → Stands p x (put_part (part a m ts r) rest) →
+  pub part_stands : {p : List ℕ} {x : ℕ} {w : ℕ} (a : Arrow) (m : Term) (ts : Terms) (r : Result) (rest : List ℕ) → Stands p x (put_part (part a m ts r) rest) →
       T (formed_part depth (part a m ts r)) → terms_width (part_terms (part a m ts r)) ≤ w → PartAt p x w m ts
   unfolding put_part formed_part part_terms term_width
   part_stands {p} a m ts r rest s f h =
@@ -77,7 +77,7 @@ module _ (depth : ℕ) where
 
   pub call_stands : {p : List ℕ} {x : ℕ} {w : ℕ} (a : Arrow) (o m : Term) (ts : Terms) (r : Result) (rest : List ℕ) → Stands p x (put_term o (word " " (put_part (part a m ts r) rest))) →
       T (formed_atom depth (method a o m ts r)) → terms_width (terms_of (method a o m ts r)) ≤ w → CallAt p x w o m ts
-  unfolding formed_atom terms_of term_width
+  unfolding formed_atom formed_parts terms_of parts_terms term_width
   call_stands {p} a o m ts r rest s f h =
       let (fo, fp) = simp T_and at f in
       record {
@@ -87,7 +87,7 @@ module _ (depth : ℕ) where
 
   pub result_at_lem : {p : List ℕ} {x : ℕ} {w : ℕ} (a : Arrow) (o m : Term) (ts : Terms) (r : Term) (rest : List ℕ) → Stands p x (put_term o (word " " (put_part (part a m ts (value r)) rest))) →
       T (formed_atom depth (method a o m ts (value r))) → terms_width (terms_of (method a o m ts (value r))) ≤ w → TermAt p (result_at p x) w r
-  unfolding formed_atom formed_part formed_result terms_of part_terms result_terms term_width put_result
+  unfolding formed_atom formed_parts formed_part formed_result terms_of parts_terms part_terms result_terms term_width put_result
   result_at_lem {p} a o m ts r rest s f h =
       let (_, (_, fr)) = simp T_and at f in
       let k = join_width ts (result_terms (value r)) in
@@ -115,10 +115,10 @@ module _ (depth : ℕ) where
     pub arguments_meet : {x y : ℕ} {ts us : Terms} → ArgumentsAt p x v ts → ArgumentsAt q y w us → T (agree_at depth p x line starts q y others) ↔ (fills σ ts ≡ fills τ us)
     arguments_meet {x} {y} {ts} {us} a b =
         arguments_agree depth p q line starts others σ τ v w g.entry h.entry ts us a.rest b.rest a.stands b.stands
-        (terms_deeper depth (suc (suc depth)) ts (omega arith) a.formed) (terms_deeper depth (suc (suc depth)) us (omega arith) b.formed) a.narrow b.narrow
+        (terms_deeper depth (suc (suc (suc depth))) ts (omega arith) a.formed) (terms_deeper depth (suc (suc (suc depth))) us (omega arith) b.formed) a.narrow b.narrow
         (terms_numbered line starts σ v g ts a.formed a.narrow) (terms_numbered line others τ w h us b.formed b.narrow)
 
-    parts_meet : {x y : ℕ} {m m' : Term} {ts ts' : Terms} → PartAt p x v m ts → PartAt q y w m' ts' →
+    pub parts_meet : {x y : ℕ} {m m' : Term} {ts ts' : Terms} → PartAt p x v m ts → PartAt q y w m' ts' →
         T (parts_at depth p x line starts q y others) ↔ ((fill σ m ≡ fill τ m') × (fills σ ts ≡ fills τ ts'))
     unfolding parts_at
     parts_meet {x} {y} a c =

@@ -1,22 +1,24 @@
 -- Nothing here is to be believed: `judge_meets` says what it gives on written clauses. Terms nest at most `depth` deep.
--- Check 11 (V21) in bytes: the new literals of the rule table (R8 to R19), and the claim as a whole.
+-- Check 11 (V21) in bytes: the new literals of the rule table (R8 to R26), and the claim as a whole.
 use Rattle.std.specs.Prelude.{ℕ, Bool, false, List, length}
 use Rattle.text.specs.Read.{Parsed, bad, got, Reader, ◌>>◌}
 use Rattle.clauses.specs.Shapes.{literals}
 use Rattle.filling.specs.Items.{Item, item_of, beside}
-use Rattle.expected.specs.Claims.{reflexive, equated, rewritten, others, claim_ends}
+use Rattle.expected.specs.Claims.{item_claimed, reflexive, equated, rewritten, merged, projected, others, claim_ends}
 use Rattle.expected.specs.declared.claims.Kept.{Kept}
-use Rattle.rule_table.specs.Rows.{FoundAt, nothing, covering, rewriting, crossing, calling, denied_term}
+use Rattle.rule_table.specs.Rows.{FoundAt, nothing, fitting, rewriting, crossing, calling, denied_term, merging, projecting}
 use Rattle.rules.specs.declared.claims.Premise.{Premise}
 
--- R8 to R19, "new literal, filled": the new literal, if there is one, after a space, of what was found in the clauses x and y.
+-- R8 to R26, "new literal, filled": the new literal, if there is one, after a space, of what was found in the clauses x and y.
 unfoldable pub new_by : ℕ → Item → Item → FoundAt → Reader (Unit {0})
 new_by depth x y nothing = reflexive depth x.entries
-new_by depth x y (covering l r) = λ rest. got tt rest
+new_by depth x y (fitting l r) = λ rest. got tt rest
 new_by depth x y (rewriting l t s o) = rewritten depth (beside x l) (length t) (beside y o)
 new_by depth x y (crossing p q p' q') = equated depth (beside x p) (beside x q)
 new_by depth x y (calling same o r o' r') = equated depth (beside x r) (beside y r')
 new_by depth x y denied_term = λ rest. got tt rest
+new_by depth x y (merging l o r o') = merged (item_claimed depth) (item_claimed depth) (beside x l) (beside y r)
+new_by depth x y (projecting o p) = projected (item_claimed depth) (beside x o) p
 
 -- A parent, filled, and its number of literals.
 pub record PremiseAt : Type 0 where

@@ -1,6 +1,6 @@
 -- Nothing here is to be believed: `judge_meets` (proofs/JudgeMeets) says that on written clauses it is `judge` of the definitions.
 -- Checks 7 to 11 of a step in bytes, over the parts of the text that begin with its parents, and what the answer means.
-use Rattle.std.specs.Prelude.{ℕ, ◌≤◌, ◌<◌, ◌≡◌, Bool, cond, ◌&&◌, List, [], T, eqb, length, drop, get_or, Option, Some, None, Ok, Err}
+use Rattle.std.specs.Prelude.{ℕ, ◌≤◌, ◌<◌, ◌≡◌, Bool, cond, not, ◌&&◌, ◌||◌, List, [], T, eqb, length, drop, get_or, Option, Some, None, Ok, Err}
 use Rattle.logic.specs.declared.Check.{Check}
 use Rattle.logic.specs.StepChecks.{Checked}
 use Rattle.logic.specs.declared.Rule.{Rule}
@@ -10,6 +10,7 @@ use Rattle.logic.specs.Each.{width}
 use Rattle.logic.specs.Judge.{judge}
 use Rattle.text.specs.Write.{put_clause}
 use Rattle.text.specs.Form.{formed_clause, form}
+use Rattle.text.specs.Figures.{few_parts_all}
 use Rattle.text.specs.Read.{Parsed, and_then, read_line}
 use Rattle.text.specs.Access.{stood}
 use Rattle.reader.specs.declared.forms.StepAt.{StepAt}
@@ -36,9 +37,9 @@ clause_with bs es = record { bytes = bs; entries = es }
 
 -- The literal of A that the claim lacks. R22: "For fac the claim is A without the literal at J where the two are positive, and without the
 -- literal at I where they are negative."
--- Of the rules without B only fac goes by a positive literal at I.
-unfoldable pub dropped_by : Bool → Parsed (Unit {0}) → ℕ → ℕ → ℕ
-dropped_by uses_b x i j = cond uses_b i (cond (stood (and_then x (λ _. positive))) j i)
+-- It is told by the numbers that the rule uses: fac alone has no B and uses J.
+unfoldable pub dropped_by : Bool → Bool → Parsed (Unit {0}) → ℕ → ℕ → ℕ
+dropped_by uses_b uses_j x i j = cond (uses_b || not uses_j) i (cond (stood (and_then x (λ _. positive))) j i)
 
 -- What checks 9 to 11 (V19 to V21) say of what was found: that there is such, that it agrees, and that the claim is the rule's.
 unfoldable pub checked : ℕ → KeptAt → KeptAt → List ℕ → Option FoundAt → Checked
@@ -51,7 +52,7 @@ unfoldable pub conclude_by : ℕ → StepAt → PremiseAt → PremiseAt → List
 conclude_by depth s a b claim =
     let x = literal s.numbers.i a.clause.bytes in
     let y = literal s.numbers.j b.clause.bytes in
-    let kept = without a (dropped_by (uses_of s.rule).b x s.numbers.i s.numbers.j) in
+    let kept = without a (dropped_by (uses_of s.rule).b (uses_of s.rule).j x s.numbers.i s.numbers.j) in
     checked depth kept (without b s.numbers.j) claim (found_by (row_of s.rule) s.numbers.k x y)
 
 -- A parent as it stands in the text: what begins with its clause, its number of literals and its width.
@@ -100,11 +101,12 @@ step_at depth own a b line s =
     let right = unused_numbers s.rule s.numbers && lists_fit s a.width b.width in
     settled (parent_numbers s.rule own s.numbers) right (under_lists depth a b line s)
 
--- A parent's clause, formed, its terms at most so deep; its number of literals and its width are these.
+-- A parent's clause, formed, its terms at most so deep, its molecules with few parts; its number of literals and its width are these.
 pub record HoldsClause (depth : ℕ) (p : ParentAt) (c : Clause) : Type 0 where
   pub rest : List ℕ
   pub written : p.clause ≡ put_clause c rest
   pub formed : T (formed_clause depth c)
+  pub few : T (few_parts_all c)
   pub literals : p.literals ≡ length c
   pub narrow : p.width ≡ width c
 

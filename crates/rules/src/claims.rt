@@ -5,7 +5,9 @@ ghost use Rattle.filling.specs.Items.{item_of};
 ghost use Rattle.rule_table.specs.Rows.{at_found};
 ghost use Rattle.rules.specs.Claim.{premise_of, without, kept_of, new_by, literals_by, claims};
 
-use expected::claims::{Kept, begin, ends, equated, others, reflexive, rewritten};
+use expected::claims::{
+    Kept, begin, ends, equated, merged, others, projected, reflexive, rewritten,
+};
 use filling::compare::{Filled, Replaced};
 use rule_table::Found;
 
@@ -47,7 +49,7 @@ impl<'a> Conclusion<'a> {
         let (a, b) = (self.a.clause, self.b.clause);
         match self.found {
             Found::Nothing => reflexive(depth, a.entries, rest),
-            Found::Covering { .. } | Found::Denied => Some(rest),
+            Found::Fitting { .. } | Found::Denied => Some(rest),
             Found::Rewriting {
                 literal,
                 term,
@@ -66,6 +68,10 @@ impl<'a> Conclusion<'a> {
             Found::Calling { value, other, .. } => {
                 equated(depth, a.beside(value), b.beside(other), rest)
             }
+            Found::Merging { left, right, .. } => {
+                merged(depth, a.beside(left), b.beside(right), rest)
+            }
+            Found::Projecting { object, part } => projected(depth, a.beside(object), part, rest),
         }
     }
 

@@ -49,12 +49,12 @@ impl<'a> Parent<'a> {
     }
 }
 
-// The literal of A that the claim lacks, where x is the literal at I.
+// The literal of A that the claim lacks, where x is the literal at I: that one, but where both literals are A's, in fac alone.
 #[tactic(auto, unfolding(crate::specs::Judging::dropped_by, text::specs::Access::stood))]
-fn dropped(uses_b: bool, x: Option<&[u8]>, i: usize, j: usize) -> usize
-    ensures { result ≡ dropped_by uses_b (passed x.entry) i j }
+fn dropped(uses: Uses, x: Option<&[u8]>, i: usize, j: usize) -> usize
+    ensures { result ≡ dropped_by uses.b uses.j (passed x.entry) i j }
 {
-    if uses_b {
+    if uses.b || !uses.j {
         return i;
     }
     let Some(literal) = x else {
@@ -123,7 +123,7 @@ impl<'a> Inference<'a> {
             b: b.clause,
         };
         Check::Agreement.passed_if(found.agrees(pair))?;
-        let i = dropped(Uses::of(step.rule).b, x, numbers.i, numbers.j);
+        let i = dropped(Uses::of(step.rule), x, numbers.i, numbers.j);
         let conclusion = Conclusion {
             found,
             a: a.without(i),

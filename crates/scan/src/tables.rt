@@ -75,6 +75,8 @@ impl Named for Rule {
             (Rule::Out, b"out"),
             (Rule::Sca, b"sca"),
             (Rule::Eli, b"eli"),
+            (Rule::Mer, b"mer"),
+            (Rule::Pro, b"pro"),
         ]
     }
 }

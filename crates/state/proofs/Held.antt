@@ -33,7 +33,7 @@ use Rattle.text.proofs.Plain.{clause_plain, in_front}
 use Rattle.text.proofs.Sound.{line_sound}
 use Rattle.reader.proofs.LineParts.{input_place, claim_place}
 use Rattle.reader.proofs.Bounds.{tell_terms, tell_clause, width_told, none_unknown, declared_told}
-use Rattle.state.proofs.Limits.{and_comm, input_limits, step_limits, clause_small}
+use Rattle.state.proofs.Limits.{and_comm, input_limits, step_limits, clause_small, clause_few}
 use Rattle.text.proofs.Tests.{T_and}
 use Rattle.reader.specs.declared.forms.LineAt.{LineAt}
 use Rattle.reader.specs.declared.forms.LineAt.TheVariants.{Sym, Input, By}
@@ -176,6 +176,7 @@ clause_stands {start = start} {part = part} {bytes = bytes} P at c f formed fits
       written = P.stands at k ∙ rw f tail;
       formed = formed;
       fits = fits;
+      few = clause_few c fits;
     })
 
 -- One symbol more.

@@ -30,7 +30,8 @@ fresh_state = record {
 unfoldable pub held_table : HeldState → List ℕ
 held_table st = take st.symbols st.counts
 
--- The limits of a line with a clause, by the most literals or entries of a list; as many variables as each of these.
+-- The limits of a line with a clause, by the most literals or entries of a list; as many variables as each of these. The arguments count
+-- the parts of molecules too (`molecule_bounds`).
 unfoldable pub line_fits : ℕ → Bounds → Bool
 line_fits most b = leb (max most b.width) max_literals && leb b.arguments max_arguments
 

@@ -12,18 +12,20 @@ use Rattle.state.specs.declared.HeldState as code
 use Rattle.state.specs.declared.Added.{Added}
 use Rattle.text.specs.Write.{put_clause}
 use Rattle.text.specs.Read.{read_line}
-use Rattle.text.specs.Figures.{office, max_symbols}
+use Rattle.text.specs.Figures.{office, max_symbols, few_parts_all}
 use Rattle.text.specs.Form.{Reading, formed_clause}
 use Rattle.state.specs.State.{State, fresh, clauses, clause_fits, after}
 use Rattle.state.specs.Failure.{read_failure}
 use Rattle.state.specs.ReadLine.{held_table, with_added}
 
--- A clause stands at a place, formed and within the limits.
+-- A clause stands at a place, formed and within the limits. One of these, "parts of a molecule" (T18), is also said by itself: what reads
+-- a clause again asks for it.
 pub record Stands (depth : ℕ) (part : ℕ → List ℕ) (at : ℕ) (c : Clause) : Type 0 where
   pub rest : List ℕ
   pub written : part at ≡ put_clause c rest
   pub formed : T (formed_clause depth c)
   pub fits : T (clause_fits c)
+  pub few : T (few_parts_all c)
 
 -- T19, "After each line the reading holds the argument counts of up to 256 symbols, and the place of every clause".
 pub record Represents (depth : ℕ) (part : ℕ → List ℕ) (held : code.HeldState) (st : State) : Type 0 where

@@ -1,10 +1,10 @@
 -- The reading state (T19), and checks 3 to 6 (V13 to V16): each a test that says that the check is passed.
 use Rattle.std.specs.Prelude.{ℕ, Bool, true, false, ◌&&◌, ◌||◌, List, [], ◌∷◌, ◌++◌, map, T, leb, ltb, eqb, length}
-use Rattle.logic.specs.Syntax.{Terms, Part, part, Atom, link, obj, arrows, lit, Clause, Step, Line, sym, input, by}
+use Rattle.logic.specs.Syntax.{Terms, Part, part, Parts, only, also, Atom, link, obj, arrows, lit, Clause, Step, Line, sym, input, by}
 use Rattle.logic.specs.Terms.{count}
 use Rattle.logic.specs.Each.{each_terms, each_clause, declares, any}
 use Rattle.text.specs.Form.{Reading, form, no_form}
-use Rattle.text.specs.Figures.{max_symbols, max_parts, max_arguments, max_literals, max_variables, max_entries}
+use Rattle.text.specs.Figures.{max_symbols, max_parts, max_arguments, max_literals, max_variables, max_entries, few_parts_all}
 
 -- T19: "After each line the reading holds the argument counts of up to 256 symbols, and the place of every clause."
 -- The symbol table (T7), the input clauses (T8) and the steps (T9) of the lines that were read.
@@ -51,14 +51,18 @@ constant_ready st (sym k) = true
 constant_ready st (input c) = has_constant st.symbols
 constant_ready st (by s) = has_constant st.symbols
 
--- V15, check 5: "another limit is passed" (T18).
+-- V15, check 5: "another limit is passed" (T18). Each part of an atom has few arguments.
 unfoldable pub part_fits : Part → Bool
 part_fits (part a m ts r) = leb (count ts) max_arguments
+
+unfoldable pub parts_fit : Parts → Bool
+parts_fit (only p) = part_fits p
+parts_fit (also p ps) = part_fits p && parts_fit ps
 
 unfoldable pub arguments_fit : Atom → Bool
 arguments_fit (link l t u) = true
 arguments_fit (obj t) = true
-arguments_fit (arrows o p) = part_fits p
+arguments_fit (arrows o ps) = parts_fit ps
 
 unfoldable pub arguments_fit_all : Clause → Bool
 arguments_fit_all [] = true
@@ -67,8 +71,11 @@ arguments_fit_all (lit g x ∷ c) = arguments_fit x && arguments_fit_all c
 abbrev pub any_symbol : ℕ → ℕ → Bool
 any_symbol f n = true
 
+-- T18, "parts of a molecule": `few_parts_all` (crates/text/specs/Figures).
 unfoldable pub clause_fits : Clause → Bool
-clause_fits c = leb (length c) max_literals && (arguments_fit_all c && each_clause (λ v. ltb v max_variables) any_symbol c)
+clause_fits c =
+    leb (length c) max_literals
+    && (arguments_fit_all c && (few_parts_all c && each_clause (λ v. ltb v max_variables) any_symbol c))
 
 unfoldable pub list_fits : Terms → Bool
 list_fits ts = leb (count ts) max_entries && each_terms (λ v. ltb v max_variables) any_symbol ts

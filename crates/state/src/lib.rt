@@ -18,7 +18,7 @@ const SYMBOLS: usize = 256;
 // Terms that a symbol takes: K of a sym line.
 const PARTS: usize = 8;
 
-// Method arguments of an atom.
+// Arguments of a method; the parts of a molecule count as half as many (`Bounds::molecule`).
 const ARGUMENTS: usize = 8;
 
 // Literals of a clause, variables, and terms of a list: as many of each.

@@ -88,6 +88,7 @@ module _ {depth : ℕ} {part : ℕ → List ℕ} {state : code.HeldState} {st : 
         formed = P.formed;
         literals = sym (get_or-map (λ (c : Held). c.literals) held n nothing_held) ∙ S.literals_of n h;
         narrow = sym (get_or-map (λ (c : Held). c.width) held n nothing_held) ∙ S.widths_of n h;
+        few = P.few;
       }
 
   module _ (line : List ℕ) where

@@ -6,16 +6,16 @@ use mathlib.Core.Path.{◌≡◌}
 use native.Mathlib.Omega.{arith}
 use lib.Dec.{T, leb, le→leb}
 use Rattle.logic.specs.declared.Arrow.{Arrow}
-use Rattle.logic.specs.Syntax.{Term, var, app, Terms, nil, cons, Result, value, none, Part, part, Atom, link, obj, arrows, lit, Clause, may_be_none}
-use Rattle.logic.specs.Terms.{part_terms, terms_of, join, result_terms}
+use Rattle.logic.specs.Syntax.{Term, var, app, Terms, nil, cons, Result, value, none, may_be_none, Part, part, Parts, only, also, Atom, link, obj, arrows, lit, Clause}
+use Rattle.logic.specs.Terms.{part_terms, parts_terms, terms_of, join, result_terms}
 use Rattle.logic.specs.Each.{each_term, each_terms, atom_over, allowed_part, allowed_result}
 use Rattle.logic.proofs.Both.{left, right, both}
-use Rattle.logic.proofs.Parts.{link_parts, link_over, obj_part, obj_over, PartOver, arrow_parts, arrow_over, part_parts, part_over}
+use Rattle.logic.proofs.Parts.{link_parts, link_over, obj_part, obj_over, PartOver, PartsOver, only_over, also_parts, also_over, arrow_parts, arrow_over, part_parts, part_over}
 use Rattle.logic.specs.Fill.{entries}
 use Rattle.logic.proofs.Ground.{entry_each}
 use Rattle.logic.proofs.Over.{Over}
 use Rattle.text.specs.Write.{put_clause}
-use Rattle.text.specs.Form.{formed_number, depth_of, depth_ofs, numbered, numbereds, formed_term, formed_terms, formed_result, formed_part, formed_atom, formed_literal, formed_clause}
+use Rattle.text.specs.Form.{formed_number, depth_of, depth_ofs, numbered, numbereds, formed_term, formed_terms, formed_result, formed_part, formed_parts, formed_atom, formed_literal, formed_clause}
 use Rattle.text.proofs.Unique.{clause_unique}
 
 -- A symbol's number is a number N.
@@ -86,11 +86,21 @@ part_formed d (part a m ts r) h k =
     (both (formed_term d m) (formed_terms d ts) (term_formed d m (omega arith) w.0) (terms_formed_deep d ts (omega arith) w.1))
     (result_formed d a r (omega arith) k.0 w.2)
 
+parts_formed : (d : ℕ) (ps : Parts) → depth_ofs (parts_terms ps) ≤ d → PartsOver formed_number formed_symbol ps → T (formed_parts d ps)
+unfolding formed_parts parts_terms
+parts_formed d (only p) h k = part_formed d p h (rw (← only_over formed_number formed_symbol p) k)
+parts_formed d (also p ps) h k =
+    let w = also_parts formed_number formed_symbol p ps k in
+    let e = join_depth (part_terms p) (parts_terms ps) in
+    both (formed_part d p) (formed_parts d ps) (part_formed d p (omega arith) w.0) (parts_formed d ps (omega arith) w.1)
+
 pub atom_formed : (d : ℕ) (x : Atom) → atom_depth x ≤ d → T (atom_over formed_number formed_symbol x) → T (formed_atom d x)
 unfolding formed_atom atom_depth terms_of depth_of
 atom_formed d (link l t u) h k = let w = link_parts formed_number formed_symbol l t u k in both (formed_term d t) (formed_term d u) (term_formed d t (omega arith) w.0) (term_formed d u (omega arith) w.1)
 atom_formed d (obj t) h k = term_formed d t (omega arith) (obj_part formed_number formed_symbol t k)
-atom_formed d (arrows o p) h k = let w = arrow_parts formed_number formed_symbol o p k in both (formed_term d o) (formed_part d p) (term_formed d o (omega arith) w.0) (part_formed d p (omega arith) w.1)
+atom_formed d (arrows o ps) h k =
+    let w = arrow_parts formed_number formed_symbol o ps k in
+    both (formed_term d o) (formed_parts d ps) (term_formed d o (omega arith) w.0) (parts_formed d ps (omega arith) w.1)
 
 pub over_formed : (d : ℕ) (c : Clause) → clause_depth c ≤ d → Over formed_number formed_symbol c → T (formed_clause d c)
 unfolding formed_clause formed_literal clause_depth Over
@@ -124,13 +134,21 @@ formed_part_lem d (part a m ts r) h =
     let z = formed_result_lem d a r (right (formed_term d m && formed_terms d ts) (formed_result d a r) h) in
     part_over formed_number formed_symbol a m ts r z.0 (formed_numbered d m (left (formed_term d m) (formed_terms d ts) w), formeds_numbered d ts (right (formed_term d m) (formed_terms d ts) w), z.1)
 
+formed_parts_lem : (d : ℕ) (ps : Parts) → T (formed_parts d ps) → PartsOver formed_number formed_symbol ps
+unfolding formed_parts
+formed_parts_lem d (only p) h = rw (only_over formed_number formed_symbol p) (formed_part_lem d p h)
+formed_parts_lem d (also p ps) h =
+    also_over formed_number formed_symbol p ps (formed_part_lem d p (left (formed_part d p) (formed_parts d ps) h))
+    (formed_parts_lem d ps (right (formed_part d p) (formed_parts d ps) h))
+
 formed_atom_lem : (d : ℕ) (x : Atom) → T (formed_atom d x) → T (atom_over formed_number formed_symbol x)
 unfolding formed_atom
 formed_atom_lem d (link l t u) h =
     link_over formed_number formed_symbol l t u (formed_numbered d t (left (formed_term d t) (formed_term d u) h)) (formed_numbered d u (right (formed_term d t) (formed_term d u) h))
 formed_atom_lem d (obj t) h = obj_over formed_number formed_symbol t (formed_numbered d t h)
-formed_atom_lem d (arrows o p) h =
-    arrow_over formed_number formed_symbol o p (formed_numbered d o (left (formed_term d o) (formed_part d p) h)) (formed_part_lem d p (right (formed_term d o) (formed_part d p) h))
+formed_atom_lem d (arrows o ps) h =
+    arrow_over formed_number formed_symbol o ps (formed_numbered d o (left (formed_term d o) (formed_parts d ps) h))
+    (formed_parts_lem d ps (right (formed_term d o) (formed_parts d ps) h))
 
 pub formed_over : (d : ℕ) (c : Clause) → T (formed_clause d c) → Over formed_number formed_symbol c
 unfolding formed_clause formed_literal Over

@@ -6,9 +6,9 @@ use mathlib.Core.Logic.{◌↔◌}
 use native.Mathlib.Omega.{arith}
 use lib.ListN.{length}
 use lib.Dec.{T, le→leb}
-use Rattle.logic.specs.Syntax.{Term, Terms, nil, cons}
-use Rattle.text.specs.Write.{Writer, ◌∘◌, word, put_term, put_terms, put_literal, put_literals}
-use Rattle.text.specs.Form.{depth_ofs, numbereds, formed_term, formed_terms, formed_literal, formed_clause}
+use Rattle.logic.specs.Syntax.{Term, Terms, nil, cons, Part}
+use Rattle.text.specs.Write.{Writer, ◌∘◌, word, put_term, put_terms, put_bracketed, put_literal, put_literals}
+use Rattle.text.specs.Form.{depth_ofs, numbereds, formed_term, formed_terms, formed_part, formed_literal, formed_clause}
 use Rattle.text.specs.Read.{got, Reader, strip, one_of, read_next, read_items, read_many}
 use Rattle.text.proofs.Tests.{T_and}
 use Rattle.text.proofs.Gives.{Gives, nothing, weaken, Sound, Complete, seq, returned, none, branch, one_of_meets, Agree, one_of_cong, after_cong}
@@ -34,6 +34,25 @@ terms d = record { put_empty = λ _. refl; put_more = λ _ _ _. refl; formed_emp
 pub literals : (d : ℕ) → Items [] ◌∷◌ put_literal put_literals (λ l. T (formed_literal d l)) (λ c. T (formed_clause d c))
 unfolding put_literals formed_clause
 literals d = record { put_empty = λ _. refl; put_more = λ _ _ _. refl; formed_empty = tt; formed_more = λ l c. T_and (formed_literal d l) (formed_clause d c); induct = λ P e m c. elim c as P [ [] ↦ e | l ∷ (ls → h) ↦ m l ls h ] }
+
+-- A list of parts.
+unfoldable pub put_part_list : List Part → Writer
+put_part_list [] = word ""
+put_part_list (p ∷ ps) = word " " ∘ put_bracketed p ∘ put_part_list ps
+
+unfoldable pub AllFormed : ℕ → List Part → Type 0
+AllFormed d [] = Unit
+AllFormed d (p ∷ ps) = T (formed_part d p) × AllFormed d ps
+
+pub part_list : (d : ℕ) → Items [] ◌∷◌ put_bracketed put_part_list (λ p. T (formed_part d p)) (AllFormed d)
+unfolding put_part_list AllFormed
+part_list d = record {
+  put_empty = λ _. refl;
+  put_more = λ _ _ _. refl;
+  formed_empty = tt;
+  formed_more = λ p ps. (λ h. h, λ h. h);
+  induct = λ P e m c. elim c as P [ [] ↦ e | p ∷ (ps → h) ↦ m p ps h ];
+}
 
 module _ {A S : Type 0} {empty : S} {more : A → S → S} {put : A → Writer} {puts : S → Writer} {F : A → Type 0} {G : S → Type 0} (I : Items empty more put puts F G) {read : Reader A} (sound : Sound put F read) where
   pub items_sound : (k : ℕ) → Sound (λ s. puts s ∘ word ")") G (read_items empty more read k)

@@ -9,16 +9,16 @@ use lib.ListN.{length, take, drop, get_or, length-append, length-drop}
 use lib.Seq.{drop-drop, take_at}
 use native.Mathlib.Numerals.{add-one}
 use borrow.Author.Tests.{ne_eqb, lt-ltb, le-leb}
-use Rattle.logic.specs.Syntax.{Term, var as variable, app, Terms, nil, cons, Literal, Clause}
+use Rattle.logic.specs.Syntax.{Term, var as variable, app, Terms, nil, cons, Part, Parts, only, also, Literal, Clause}
 use Rattle.logic.specs.Terms.{count, entry_or}
-use Rattle.text.specs.Write.{Writer, word, put_term, put_terms, put_arguments, put_literal, put_literals}
+use Rattle.text.specs.Write.{Writer, word, put_term, put_terms, put_arguments, put_bracketed, put_parts, put_literal, put_literals}
 use Rattle.text.specs.Read.{Parsed, bad, got, strip}
 use Rattle.text.proofs.Places.{end_of, places, entry_of}
 use Rattle.text.specs.Access.{closing, skip_item, pass_item, to_item, opening, to_argument}
 use Rattle.text.proofs.Tests.{T_and}
 use Rattle.text.proofs.Positions.{pass_tail, landed}
 use Rattle.text.proofs.Plain.{Plain, number_plain, term_plain, in_front}
-use Rattle.text.proofs.Trees.{Tree, var, node, Trees, end, byte, bracket, put_tree, put_inside, inner, Inner, Clean, CleanIn, number_bytes, number_inner, put_term_lem, put_arguments_lem, put_literal_lem, clean_term, clean_arguments, clean_literal}
+use Rattle.text.proofs.Trees.{Tree, var, node, Trees, end, byte, bracket, put_tree, put_inside, inner, Inner, Clean, CleanIn, number_bytes, number_inner, put_term_lem, put_arguments_lem, put_bracketed_lem, put_literal_lem, clean_term, clean_arguments, clean_bracketed, clean_literal}
 
 -- A byte that is no bracket.
 pub inner_tests : (b : ℕ) → T (inner b) → (eqb b 40 ≡ false) × (eqb b 41 ≡ false)
@@ -63,6 +63,9 @@ skip_term t rest = rw (put_term_lem t rest) (skip_tree _ (clean_term t) rest)
 
 pub skip_arguments : (ts : Terms) (rest : List ℕ) → skip_item (put_arguments ts rest) ≡ got tt rest
 skip_arguments ts rest = rw (put_arguments_lem ts rest) (skip_tree _ (clean_arguments ts) rest)
+
+pub skip_bracketed : (p : Part) (rest : List ℕ) → skip_item (put_bracketed p rest) ≡ got tt rest
+skip_bracketed p rest = rw (put_bracketed_lem p rest) (skip_tree _ (clean_bracketed p) rest)
 
 pub skip_literal : (l : Literal) (rest : List ℕ) → skip_item (put_literal l rest) ≡ got tt rest
 skip_literal l rest = rw (put_literal_lem l rest) (skip_tree _ (clean_literal l) rest)
@@ -114,6 +117,16 @@ pub terms_each : (ts : Terms) (rest : List ℕ) → put_terms ts rest ≡ put_ea
 unfolding put_terms put_each listed
 terms_each nil rest = refl
 terms_each (cons t ts) rest = rw (terms_each ts rest)
+
+-- The parts of a molecule as a list.
+unfoldable pub list_of_parts : Parts → List Part
+list_of_parts (only p) = p ∷ []
+list_of_parts (also p ps) = p ∷ list_of_parts ps
+
+pub parts_each : (ps : Parts) (rest : List ℕ) → put_parts ps rest ≡ put_each put_bracketed (list_of_parts ps) rest
+unfolding put_parts put_each list_of_parts
+parts_each (only p) rest = refl
+parts_each (also p ps) rest = rw (parts_each ps rest)
 
 after_item : {A : Type 0} (v : ℕ) (xs : List A) {x : A} {ys : List A} → drop v xs ≡ x ∷ ys → drop (suc v) xs ≡ ys
 after_item zero [] d = cc
@@ -172,6 +185,10 @@ module _ {A : Type 0} (put : A → Writer) (skips : (a : A) (rest : List ℕ) �
 -- Literal n of a clause: item(p, 3, n) for the clause p.
 pub clause_item : (c : Clause) (n : ℕ) (rest : List ℕ) → to_item n (put_literals c (word ")" rest)) ≡ from_item put_literal (drop n c) (word ")" rest)
 clause_item c n rest = rw (literals_each c (41 ∷ rest)) (to_item_lem put_literal skip_literal c n rest)
+
+-- Part n of a molecule, behind its object.
+pub part_item : (ps : Parts) (n : ℕ) (rest : List ℕ) → to_item n (put_parts ps (word ")" rest)) ≡ from_item put_bracketed (drop n (list_of_parts ps)) (word ")" rest)
+part_item ps n rest = rw (parts_each ps (41 ∷ rest)) (to_item_lem put_bracketed skip_bracketed (list_of_parts ps) n rest)
 
 -- Entry n of a list: item(l, 4, n) for the list l.
 pub let_item : (ts : Terms) (n : ℕ) (rest : List ℕ) → to_item n (put_terms ts (word ")" rest)) ≡ from_item put_term (drop n (listed ts)) (word ")" rest)

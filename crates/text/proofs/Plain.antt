@@ -14,10 +14,10 @@ use Rattle.logic.specs.declared.Link.TheVariants.{Eq, Mem, Sub}
 use Rattle.logic.specs.declared.Arrow.{Arrow}
 use Rattle.logic.specs.declared.Arrow.TheVariants.{Sv, Si, Mv, Mi, St, Mt}
 use Rattle.logic.specs.declared.Rule.{Rule}
-use Rattle.logic.specs.declared.Rule.TheVariants.{Refl, Res, Fac, Par, Acy, Tra, Inc, Inh, Inp, Out, Sca, Eli}
-use Rattle.logic.specs.Syntax.{Term, var, app, Terms, nil, cons, Result, value, none, Part, part, arrow_of, Atom, link, obj, arrows, Literal, lit, Clause, Step, Line, input, by}
+use Rattle.logic.specs.declared.Rule.TheVariants.{Refl, Res, Fac, Par, Acy, Tra, Inc, Inh, Inp, Out, Sca, Eli, Mer, Pro}
+use Rattle.logic.specs.Syntax.{Term, var, app, Terms, nil, cons, Result, value, none, Part, part, arrow_of, Parts, only, also, Atom, link, obj, arrows, Literal, lit, Clause, Step, Line, input, by}
 use Rattle.text.specs.Words.{bytes, line_end, sign_word, link_word, arrow_word, rule_word}
-use Rattle.text.specs.Write.{Writer, ◌∘◌, word, digit_byte, put_digits, put_number, put_term, put_terms, put_arguments, put_result, put_part, put_atom, put_literal, put_literals, put_clause, put_let, put_step, put_line}
+use Rattle.text.specs.Write.{Writer, ◌∘◌, word, digit_byte, put_digits, put_number, put_term, put_terms, put_arguments, put_result, put_part, put_bracketed, put_parts, put_atom, put_literal, put_literals, put_clause, put_let, put_step, put_line}
 use Rattle.text.proofs.Tests.{T_and}
 
 -- No byte is a line end.
@@ -67,7 +67,7 @@ pub arrow_plain : (a : Arrow) → Plain (word (arrow_word a))
 arrow_plain a = plain (arrow_word a) (elim a as (λ k. T (unbroken (bytes (arrow_word k)))) [ Sv ↦ tt | Si ↦ tt | Mv ↦ tt | Mi ↦ tt | St ↦ tt | Mt ↦ tt ])
 
 pub rule_plain : (r : Rule) → Plain (word (rule_word r))
-rule_plain r = plain (rule_word r) (elim r as (λ k. T (unbroken (bytes (rule_word k)))) [ Refl ↦ tt | Res ↦ tt | Fac ↦ tt | Par ↦ tt | Acy ↦ tt | Tra ↦ tt | Inc ↦ tt | Inh ↦ tt | Inp ↦ tt | Out ↦ tt | Sca ↦ tt | Eli ↦ tt ])
+rule_plain r = plain (rule_word r) (elim r as (λ k. T (unbroken (bytes (rule_word k)))) [ Refl ↦ tt | Res ↦ tt | Fac ↦ tt | Par ↦ tt | Acy ↦ tt | Tra ↦ tt | Inc ↦ tt | Inh ↦ tt | Inp ↦ tt | Out ↦ tt | Sca ↦ tt | Eli ↦ tt | Mer ↦ tt | Pro ↦ tt ])
 
 space : Plain (word " ")
 space = plain " " tt
@@ -100,11 +100,21 @@ pub part_plain : (p : Part) → Plain (put_part p)
 unfolding put_part
 part_plain (part a m ts r) = term_plain m ⨾ space ⨾ arguments_plain ts ⨾ space ⨾ result_plain r ⨾ close
 
+pub bracketed_plain : (p : Part) → Plain (put_bracketed p)
+unfolding put_bracketed
+bracketed_plain p = plain "(" tt ⨾ arrow_plain (arrow_of p) ⨾ space ⨾ part_plain p
+
+parts_plain : (ps : Parts) → Plain (put_parts ps)
+unfolding put_parts
+parts_plain (only p) = space ⨾ bracketed_plain p
+parts_plain (also p ps) = space ⨾ bracketed_plain p ⨾ parts_plain ps
+
 pub atom_plain : (a : Atom) → Plain (put_atom a)
 unfolding put_atom
 atom_plain (link l t u) = plain "(" tt ⨾ link_plain l ⨾ space ⨾ term_plain t ⨾ space ⨾ term_plain u ⨾ close
 atom_plain (obj t) = plain "(obj " tt ⨾ term_plain t ⨾ close
-atom_plain (arrows o p) = plain "(" tt ⨾ arrow_plain (arrow_of p) ⨾ space ⨾ term_plain o ⨾ space ⨾ part_plain p
+atom_plain (arrows o (only p)) = plain "(" tt ⨾ arrow_plain (arrow_of p) ⨾ space ⨾ term_plain o ⨾ space ⨾ part_plain p
+atom_plain (arrows o (also p ps)) = plain "(mol " tt ⨾ term_plain o ⨾ parts_plain (also p ps) ⨾ close
 
 pub literal_plain : (l : Literal) → Plain (put_literal l)
 unfolding put_literal

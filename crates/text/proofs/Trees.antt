@@ -10,12 +10,12 @@ use Rattle.logic.specs.declared.Sign.TheVariants.{Positive, Negative}
 use Rattle.logic.specs.declared.Link.TheVariants.{Eq, Mem, Sub}
 use Rattle.logic.specs.declared.Arrow.{Arrow}
 use Rattle.logic.specs.declared.Arrow.TheVariants.{Sv, Si, Mv, Mi, St, Mt}
-use Rattle.logic.specs.Syntax.{Term, var as variable, app, Terms, nil, cons, Result, value, none, Part, part, arrow_of, Atom, link, obj, arrows, Literal, lit, Clause}
-use Rattle.logic.specs.Terms.{join, part_terms, terms_of, result_terms}
+use Rattle.logic.specs.Syntax.{Term, var as variable, app, Terms, nil, cons, Result, value, none, Part, part, arrow_of, Parts, only, also, Atom, link, obj, arrows, Literal, lit, Clause}
+use Rattle.logic.specs.Terms.{join, part_terms, parts_terms, terms_of, result_terms}
 use Rattle.logic.specs.Each.{term_width, terms_width}
 use Rattle.text.specs.Words.{bytes, sign_word, link_word, arrow_word}
-use Rattle.text.specs.Write.{Writer, word, digit_byte, put_digits, put_number, put_term, put_terms, put_arguments, put_result, put_part, put_atom, put_literal, put_literals, put_clause, put_let}
-use Rattle.text.specs.Form.{formed_number, formed_term, formed_terms, formed_result, formed_part, formed_atom}
+use Rattle.text.specs.Write.{Writer, word, digit_byte, put_digits, put_number, put_term, put_terms, put_arguments, put_result, put_part, put_bracketed, put_parts, put_atom, put_literal, put_literals, put_clause, put_let}
+use Rattle.text.specs.Form.{formed_number, formed_term, formed_terms, formed_result, formed_part, formed_parts, formed_atom}
 use Rattle.text.proofs.Tests.{T_and}
 use Rattle.text.proofs.Formed.{var_formed, app_formed, no_depth, terms_formed}
 use Rattle.text.proofs.Plain.{number_plain, in_front}
@@ -139,10 +139,18 @@ tree_result none = texts (bytes "none") end
 unfoldable pub tree_part : Part → Trees
 tree_part (part a m ts r) = bracket (tree_term m) (byte 32 (bracket (tree_arguments ts) (byte 32 (tree_result r))))
 
+unfoldable pub tree_bracketed : Part → Tree
+tree_bracketed p = node (texts (bytes (arrow_word (arrow_of p))) (byte 32 (tree_part p)))
+
+unfoldable pub tree_parts : Parts → Trees
+tree_parts (only p) = byte 32 (bracket (tree_bracketed p) end)
+tree_parts (also p ps) = byte 32 (bracket (tree_bracketed p) (tree_parts ps))
+
 unfoldable pub tree_atom : Atom → Tree
 tree_atom (link l t u) = node (texts (bytes (link_word l)) (byte 32 (bracket (tree_term t) (byte 32 (bracket (tree_term u) end)))))
 tree_atom (obj t) = node (texts (bytes "obj ") (bracket (tree_term t) end))
-tree_atom (arrows o p) = node (texts (bytes (arrow_word (arrow_of p))) (byte 32 (bracket (tree_term o) (byte 32 (tree_part p)))))
+tree_atom (arrows o (only p)) = node (texts (bytes (arrow_word (arrow_of p))) (byte 32 (bracket (tree_term o) (byte 32 (tree_part p)))))
+tree_atom (arrows o (also p ps)) = node (texts (bytes "mol ") (bracket (tree_term o) (tree_parts (also p ps))))
 
 unfoldable pub tree_literal : Literal → Tree
 tree_literal (lit s a) = node (texts (bytes (sign_word s)) (byte 32 (bracket (tree_atom a) end)))
@@ -183,11 +191,21 @@ pub put_part_lem : (p : Part) (rest : List ℕ) → put_part p rest ≡ put_insi
 unfolding put_part tree_part put_tree
 put_part_lem (part a m ts r) rest = rw (put_result_lem r _, put_arguments_lem ts _, put_term_lem m _)
 
+pub put_bracketed_lem : (p : Part) (rest : List ℕ) → put_bracketed p rest ≡ put_tree (tree_bracketed p) rest
+unfolding put_bracketed tree_bracketed put_tree
+put_bracketed_lem p rest = rw (put_texts, put_part_lem p rest)
+
+pub put_parts_lem : (ps : Parts) (rest : List ℕ) → put_parts ps rest ≡ put_inside (tree_parts ps) rest
+unfolding put_parts tree_parts put_tree
+put_parts_lem (only p) rest = rw (put_bracketed_lem p rest)
+put_parts_lem (also p ps) rest = rw (put_parts_lem ps rest, put_bracketed_lem p _)
+
 pub put_atom_lem : (a : Atom) (rest : List ℕ) → put_atom a rest ≡ put_tree (tree_atom a) rest
 unfolding put_atom tree_atom put_tree
 put_atom_lem (link l t u) rest = rw (put_texts, put_term_lem u _, put_term_lem t _)
 put_atom_lem (obj t) rest = rw (put_texts, put_term_lem t _)
-put_atom_lem (arrows o p) rest = rw (put_texts, put_part_lem p rest, put_term_lem o _)
+put_atom_lem (arrows o (only p)) rest = rw (put_texts, put_part_lem p rest, put_term_lem o _)
+put_atom_lem (arrows o (also p ps)) rest = rw (put_texts, put_parts_lem (also p ps) (41 ∷ rest), put_term_lem o _)
 
 pub put_literal_lem : (l : Literal) (rest : List ℕ) → put_literal l rest ≡ put_tree (tree_literal l) rest
 unfolding put_literal tree_literal put_tree
@@ -228,9 +246,21 @@ unfolding tree_result texts
 clean_result (value t) = (clean_term t, tt)
 clean_result none = (tt, (tt, (tt, (tt, tt))))
 
-clean_part : (p : Part) → CleanIn (tree_part p)
+pub clean_part : (p : Part) → CleanIn (tree_part p)
 unfolding tree_part
 clean_part (part a m ts r) = (clean_term m, (tt, (clean_arguments ts, (tt, clean_result r))))
+
+pub clean_bracketed : (p : Part) → Clean (tree_bracketed p)
+unfolding tree_bracketed texts
+clean_bracketed p = elim (arrow_of p) as (λ a. Clean (node (texts (bytes (arrow_word a)) (byte 32 (tree_part p))))) [ Sv ↦ (tt, (tt, (tt, c))) | Si ↦ (tt, (tt, (tt, c))) | Mv ↦ (tt, (tt, (tt, c))) | Mi ↦ (tt, (tt, (tt, c))) | St ↦ (tt, (tt, (tt, c))) | Mt ↦ (tt, (tt, (tt, c))) ]
+  where
+    c : CleanIn (byte 32 (tree_part p))
+    c = (tt, clean_part p)
+
+pub clean_parts : (ps : Parts) → CleanIn (tree_parts ps)
+unfolding tree_parts
+clean_parts (only p) = (tt, (clean_bracketed p, tt))
+clean_parts (also p ps) = (tt, (clean_bracketed p, clean_parts ps))
 
 pub clean_atom : (a : Atom) → Clean (tree_atom a)
 unfolding tree_atom texts
@@ -239,7 +269,8 @@ clean_atom (link l t u) = elim l as (λ l. Clean (node (texts (bytes (link_word 
     c : CleanIn (byte 32 (bracket (tree_term t) (byte 32 (bracket (tree_term u) end))))
     c = (tt, (clean_term t, (tt, (clean_term u, tt))))
 clean_atom (obj t) = (tt, (tt, (tt, (tt, (tt, (clean_term t, tt))))))
-clean_atom (arrows o p) = elim (arrow_of p) as (λ a. Clean (node (texts (bytes (arrow_word a)) (byte 32 (bracket (tree_term o) (byte 32 (tree_part p))))))) [ Sv ↦ (tt, (tt, (tt, c))) | Si ↦ (tt, (tt, (tt, c))) | Mv ↦ (tt, (tt, (tt, c))) | Mi ↦ (tt, (tt, (tt, c))) | St ↦ (tt, (tt, (tt, c))) | Mt ↦ (tt, (tt, (tt, c))) ]
+clean_atom (arrows o (also p ps)) = (tt, (tt, (tt, (tt, (tt, (clean_term o, clean_parts (also p ps)))))))
+clean_atom (arrows o (only p)) = elim (arrow_of p) as (λ a. Clean (node (texts (bytes (arrow_word a)) (byte 32 (bracket (tree_term o) (byte 32 (tree_part p))))))) [ Sv ↦ (tt, (tt, (tt, c))) | Si ↦ (tt, (tt, (tt, c))) | Mv ↦ (tt, (tt, (tt, c))) | Mi ↦ (tt, (tt, (tt, c))) | St ↦ (tt, (tt, (tt, c))) | Mt ↦ (tt, (tt, (tt, c))) ]
   where
     c : CleanIn (byte 32 (bracket (tree_term o) (byte 32 (tree_part p))))
     c = (tt, (clean_term o, (tt, clean_part p)))
@@ -316,16 +347,36 @@ within_part w d (part a m ts r) f h =
     let j = join_width ts (result_terms r) in
     (within_up w d m g (omega arith), (within_arguments w d ts k (omega arith), within_result w d a r i (omega arith)))
 
-pub within_atom : (w d : ℕ) (x : Atom) → T (formed_atom d x) → terms_width (terms_of x) ≤ w → Within (Below w) (tree_atom x) (suc (suc d))
-unfolding tree_atom formed_atom terms_of terms_width
+pub within_bracketed : (w d : ℕ) (p : Part) → T (formed_part d p) → terms_width (part_terms p) ≤ w → Within (Below w) (tree_bracketed p) (suc (suc d))
+unfolding tree_bracketed
+within_bracketed w d p f h = within_texts _ (bytes (arrow_word (arrow_of p))) _ (suc d) (within_part w d p f h)
+
+pub within_parts : (w d : ℕ) (ps : Parts) → T (formed_parts d ps) → terms_width (parts_terms ps) ≤ w → WithinIn (Below w) (tree_parts ps) (suc (suc d))
+unfolding tree_parts formed_parts parts_terms
+within_parts w d (only p) f h = (within_bracketed w d p f h, tt)
+within_parts w d (also p ps) f h =
+    let (g, k) = simp T_and at f in
+    let j = join_width (part_terms p) (parts_terms ps) in
+    (within_bracketed w d p g (omega arith), within_parts w d ps k (omega arith))
+
+within_two : (w d : ℕ) (t : Term) → T (formed_term d t) → term_width t ≤ w → Within (Below w) (tree_term t) (suc (suc d))
+within_two w d t f h = within_more _ (tree_term t) (suc d) (within_up w d t f h)
+
+-- A part of a molecule is one bracket deeper than an atom.
+pub within_atom : (w d : ℕ) (x : Atom) → T (formed_atom d x) → terms_width (terms_of x) ≤ w → Within (Below w) (tree_atom x) (suc (suc (suc d)))
+unfolding tree_atom formed_atom formed_parts terms_of parts_terms terms_width
 within_atom w d (link l t u) f h =
     let (g, k) = simp T_and at f in
-    within_texts _ (bytes (link_word l)) _ (suc d) (within_up w d t g (omega arith), (within_up w d u k (omega arith), tt))
-within_atom w d (obj t) f h = within_texts _ (bytes "obj ") _ (suc d) (within_up w d t f (omega arith), tt)
-within_atom w d (arrows o p) f h =
+    within_texts _ (bytes (link_word l)) _ (suc (suc d)) (within_two w d t g (omega arith), (within_two w d u k (omega arith), tt))
+within_atom w d (obj t) f h = within_texts _ (bytes "obj ") _ (suc (suc d)) (within_two w d t f (omega arith), tt)
+within_atom w d (arrows o (only p)) f h =
     let (g, k) = simp T_and at f in
-    within_texts _ (bytes (arrow_word (arrow_of p))) _ (suc d) (within_up w d o g (omega arith), within_part w d p k (omega arith))
+    within_texts _ (bytes (arrow_word (arrow_of p))) _ (suc (suc d))
+    (within_two w d o g (omega arith), within_in_more _ (tree_part p) (suc d) (within_part w d p k (omega arith)))
+within_atom w d (arrows o (also p ps)) f h =
+    let (g, k) = simp T_and at f in
+    within_texts _ (bytes "mol ") _ (suc (suc d)) (within_two w d o g (omega arith), within_parts w d (also p ps) (simp T_and k) (omega arith))
 
-pub within_literal : (w d : ℕ) (g : Sign) (x : Atom) → T (formed_atom d x) → terms_width (terms_of x) ≤ w → Within (Below w) (tree_literal (lit g x)) (suc (suc (suc d)))
+pub within_literal : (w d : ℕ) (g : Sign) (x : Atom) → T (formed_atom d x) → terms_width (terms_of x) ≤ w → Within (Below w) (tree_literal (lit g x)) (suc (suc (suc (suc d))))
 unfolding tree_literal
-within_literal w d g x f h = within_texts _ (bytes (sign_word g)) _ (suc (suc d)) (within_atom w d x f h, tt)
+within_literal w d g x f h = within_texts _ (bytes (sign_word g)) _ (suc (suc (suc d))) (within_atom w d x f h, tt)

@@ -2,7 +2,7 @@
 use Rattle.std.specs.Prelude.{ℕ, suc, max, Bool, true, ◌&&◌, List, [], ◌∷◌, leb}
 use Rattle.logic.specs.declared.Arrow.{Arrow}
 use Rattle.logic.specs.Syntax.{Term, var, app, Terms, nil, cons, Result, value, none, may_be_none}
-use Rattle.logic.specs.Syntax.{Part, part, Atom, link, obj, arrows, Literal, lit, Clause}
+use Rattle.logic.specs.Syntax.{Part, part, Parts, only, also, Atom, link, obj, arrows, Literal, lit, Clause}
 use Rattle.logic.specs.Syntax.{Step, Line, sym, input, by}
 
 -- T4: "A number N is decimal, 0 to 65,535".
@@ -44,14 +44,18 @@ unfoldable pub formed_result : ℕ → Arrow → Result → Bool
 formed_result depth a (value t) = formed_term depth t
 formed_result depth a none = may_be_none a
 
--- T13, T16: every term of a part, an atom, a literal, a clause is formed.
+-- T13, T16, T21: every term of a part, of parts, an atom, a literal, a clause is formed.
 unfoldable pub formed_part : ℕ → Part → Bool
 formed_part depth (part a m ts r) = formed_term depth m && formed_terms depth ts && formed_result depth a r
+
+unfoldable pub formed_parts : ℕ → Parts → Bool
+formed_parts depth (only p) = formed_part depth p
+formed_parts depth (also p ps) = formed_part depth p && formed_parts depth ps
 
 unfoldable pub formed_atom : ℕ → Atom → Bool
 formed_atom depth (link l t u) = formed_term depth t && formed_term depth u
 formed_atom depth (obj t) = formed_term depth t
-formed_atom depth (arrows o p) = formed_term depth o && formed_part depth p
+formed_atom depth (arrows o ps) = formed_term depth o && formed_parts depth ps
 
 unfoldable pub formed_literal : ℕ → Literal → Bool
 formed_literal depth (lit s a) = formed_atom depth a

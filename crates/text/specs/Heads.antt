@@ -5,7 +5,7 @@ use Rattle.logic.specs.declared.Link.{Link}
 use Rattle.logic.specs.declared.Link.TheVariants.{Eq, Mem, Sub}
 use Rattle.logic.specs.declared.Arrow.{Arrow}
 use Rattle.logic.specs.declared.Arrow.TheVariants.{Sv, Si, Mv, Mi, St, Mt}
-use Rattle.logic.specs.Syntax.{arrow_of, Atom, link, obj, arrows}
+use Rattle.logic.specs.Syntax.{arrow_of, only, also, Atom, link, obj, arrows}
 use Rattle.text.specs.Words.{bytes}
 
 abbrev pub heads : List (List ℕ)
@@ -20,6 +20,7 @@ heads =
     ∷ bytes "(mi "
     ∷ bytes "(st "
     ∷ bytes "(mt "
+    ∷ bytes "(mol "
     ∷ []
 
 abbrev pub link_kind : Link → ℕ
@@ -39,7 +40,8 @@ arrow_kind Mt = 9
 unfoldable pub kind_number : Atom → ℕ
 kind_number (link l t u) = link_kind l
 kind_number (obj t) = 3
-kind_number (arrows o p) = arrow_kind (arrow_of p)
+kind_number (arrows o (only p)) = arrow_kind (arrow_of p)
+kind_number (arrows o (also p ps)) = 10
 
 abbrev pub head : ℕ → List ℕ
 head n = get_or heads n []

@@ -9,9 +9,9 @@ use Rattle.logic.specs.declared.Link.TheVariants.{Eq, Mem, Sub}
 use Rattle.logic.specs.declared.Arrow.{Arrow}
 use Rattle.logic.specs.declared.Arrow.TheVariants.{Sv, Si, Mv, Mi, St, Mt}
 use Rattle.logic.specs.declared.Rule.{Rule}
-use Rattle.logic.specs.declared.Rule.TheVariants.{Refl, Res, Fac, Par, Acy, Tra, Inc, Inh, Inp, Out, Sca, Eli}
+use Rattle.logic.specs.declared.Rule.TheVariants.{Refl, Res, Fac, Par, Acy, Tra, Inc, Inh, Inp, Out, Sca, Eli, Mer, Pro}
 use Rattle.logic.specs.Syntax.{Term, var, app, Terms, nil, cons, Result, value, none, may_be_none}
-use Rattle.logic.specs.Syntax.{Part, part, Atom, link, obj, arrows, Literal, lit, Clause}
+use Rattle.logic.specs.Syntax.{Part, part, Parts, only, also, Atom, link, obj, arrows, Literal, lit, Clause}
 use Rattle.logic.specs.Syntax.{Line, sym, input, by}
 use Rattle.text.specs.Words.{bytes, sign_word, link_word, arrow_word, rule_word}
 use Rattle.text.specs.Form.{max_number, Reading, form, no_form}
@@ -79,7 +79,7 @@ abbrev pub arrow_table : List Arrow
 arrow_table = Sv ∷ Si ∷ Mv ∷ Mi ∷ St ∷ Mt ∷ []
 
 abbrev pub rules : List Rule
-rules = Refl ∷ Res ∷ Fac ∷ Par ∷ Acy ∷ Tra ∷ Inc ∷ Inh ∷ Inp ∷ Out ∷ Sca ∷ Eli ∷ []
+rules = Refl ∷ Res ∷ Fac ∷ Par ∷ Acy ∷ Tra ∷ Inc ∷ Inh ∷ Inp ∷ Out ∷ Sca ∷ Eli ∷ Mer ∷ Pro ∷ []
 
 -- A branch for each entry of a table of words.
 abbrev pub each : {A B : Type 0} → (A → String) → (A → Reader B) → List A → List (Branch B)
@@ -200,13 +200,43 @@ read_method depth a = do
   o ← read_term depth
   skip " "
   p ← read_part depth a
-  return (arrows o p)
+  return (arrows o (only p))
+
+-- T21: a PART, `(ARROW M (T ...) R)`.
+unfoldable pub read_arrow : Reader Arrow
+read_arrow = one_of (each arrow_word return arrow_table)
+
+unfoldable pub read_bracketed : ℕ → Reader Part
+read_bracketed depth = do
+  skip "("
+  a ← read_arrow
+  skip " "
+  read_part depth a
+
+-- A part and those behind it.
+unfoldable pub parts_of : Part → List Part → Parts
+parts_of p [] = only p
+parts_of p (q ∷ qs) = also p (parts_of q qs)
+
+-- T21: "T PART PART ...)" after the word: two parts, and any number more.
+unfoldable pub read_molecule : ℕ → Reader Atom
+read_molecule depth = do
+  skip " "
+  o ← read_term depth
+  skip " "
+  p ← read_bracketed depth
+  skip " "
+  q ← read_bracketed depth
+  qs ← read_many [] ◌∷◌ (read_bracketed depth)
+  return (arrows o (also p (parts_of q qs)))
 
 -- The word of an atom decides what follows it.
 unfoldable pub read_kind : ℕ → Reader Atom
-read_kind depth = one_of (each link_word (read_link depth) links ++ ("obj" ⇒ read_object depth) ∷ each arrow_word (read_method depth) arrow_table)
+read_kind depth =
+    one_of (each link_word (read_link depth) links
+    ++ ("obj" ⇒ read_object depth) ∷ ("mol" ⇒ read_molecule depth) ∷ each arrow_word (read_method depth) arrow_table)
 
--- T13: `(eq T U)`, `(mem T U)`, `(sub T U)`, `(obj T)`, `(ARROW O M (T ...) R)`.
+-- T13: `(eq T U)`, `(mem T U)`, `(sub T U)`, `(obj T)`, `(ARROW O M (T ...) R)`. T21: `(mol T PART PART ...)`.
 unfoldable pub read_atom : ℕ → Reader Atom
 read_atom depth = do
   skip "("
@@ -237,7 +267,7 @@ read_let depth = do
   skip "(let"
   read_terms (read_term depth)
 
--- T10: "RULE is one of the twelve words (R8 to R19). A line with any other isn't a form."
+-- T10: "RULE is one of the fourteen words (R8 to R19, R25, R26). A line with any other isn't a form."
 unfoldable pub read_rule : Reader Rule
 read_rule = one_of (each rule_word return rules)
 

@@ -9,7 +9,7 @@ use Rattle.logic.specs.declared.Link.TheVariants.{Eq, Mem, Sub}
 use Rattle.logic.specs.declared.Arrow.{Arrow}
 use Rattle.logic.specs.declared.Arrow.TheVariants.{Sv, Si, Mv, Mi, St, Mt}
 use Rattle.logic.specs.declared.Rule.{Rule}
-use Rattle.logic.specs.declared.Rule.TheVariants.{Refl, Res, Fac, Par, Acy, Tra, Inc, Inh, Inp, Out, Sca, Eli}
+use Rattle.logic.specs.declared.Rule.TheVariants.{Refl, Res, Fac, Par, Acy, Tra, Inc, Inh, Inp, Out, Sca, Eli, Mer, Pro}
 
 -- T6, "the bytes themselves": a word as its bytes.
 abbrev pub bytes : String → List ℕ
@@ -41,7 +41,7 @@ arrow_word Mi = "mi"
 arrow_word St = "st"
 arrow_word Mt = "mt"
 
--- T10: "RULE is one of the twelve words (R8 to R19). A line with any other isn't a form."
+-- T10: "RULE is one of the fourteen words (R8 to R19, R25, R26). A line with any other isn't a form."
 abbrev pub rule_word : Rule → String
 rule_word Refl = "refl"
 rule_word Res = "res"
@@ -55,3 +55,5 @@ rule_word Inp = "inp"
 rule_word Out = "out"
 rule_word Sca = "sca"
 rule_word Eli = "eli"
+rule_word Mer = "mer"
+rule_word Pro = "pro"

@@ -4,7 +4,7 @@
 use Rattle.std.specs.Prelude.{ℕ, zero, suc, ◌+◌, ◌/◌, ◌%◌, cond, List, [], ◌∷◌, ◌++◌, ltb}
 use Prim.Native.String.{String}
 use Rattle.logic.specs.Syntax.{Term, var, app, Terms, nil, cons, Result, value, none}
-use Rattle.logic.specs.Syntax.{Part, part, arrow_of, Atom, link, obj, arrows, Literal, lit, Clause}
+use Rattle.logic.specs.Syntax.{Part, part, arrow_of, Parts, only, also, Atom, link, obj, arrows, Literal, lit, Clause}
 use Rattle.logic.specs.Syntax.{Step, Line, sym, input, by}
 use Rattle.text.specs.Words.{bytes, line_end, sign_word, link_word, arrow_word, rule_word}
 
@@ -61,11 +61,20 @@ put_result none = word "none"
 unfoldable pub put_part : Part → Writer
 put_part (part a m ts r) = put_term m ∘ word " " ∘ put_arguments ts ∘ word " " ∘ put_result r ∘ word ")"
 
--- T13: `(eq T U)`, `(mem T U)`, `(sub T U)`, `(obj T)`, `(ARROW O M (T ...) R)`.
+-- T21: a PART, `(ARROW M (T ...) R)`. T3: each after one space.
+unfoldable pub put_bracketed : Part → Writer
+put_bracketed p = word "(" ∘ word (arrow_word (arrow_of p)) ∘ word " " ∘ put_part p
+
+unfoldable pub put_parts : Parts → Writer
+put_parts (only p) = word " " ∘ put_bracketed p
+put_parts (also p ps) = word " " ∘ put_bracketed p ∘ put_parts ps
+
+-- T13: `(eq T U)`, `(mem T U)`, `(sub T U)`, `(obj T)`, `(ARROW O M (T ...) R)`. T21: `(mol T PART PART ...)`.
 unfoldable pub put_atom : Atom → Writer
 put_atom (link l t u) = word "(" ∘ word (link_word l) ∘ word " " ∘ put_term t ∘ word " " ∘ put_term u ∘ word ")"
 put_atom (obj t) = word "(obj " ∘ put_term t ∘ word ")"
-put_atom (arrows o p) = word "(" ∘ word (arrow_word (arrow_of p)) ∘ word " " ∘ put_term o ∘ word " " ∘ put_part p
+put_atom (arrows o (only p)) = word "(" ∘ word (arrow_word (arrow_of p)) ∘ word " " ∘ put_term o ∘ word " " ∘ put_part p
+put_atom (arrows o (also p ps)) = word "(mol " ∘ put_term o ∘ put_parts (also p ps) ∘ word ")"
 
 -- T16: `(+ ATOM)`, `(- ATOM)`.
 unfoldable pub put_literal : Literal → Writer

@@ -6,12 +6,12 @@ use std::io;
 use std::path::Path;
 
 use second::generate::limits::{limit_text, KINDS};
-use second::generate::model::RULES;
+use second::generate::model::{uses_second, RULES};
 use second::generate::random::Random;
 use second::generate::{mixed_sample, web_sample, Sample};
 use second::{check, Answer, Verdict, MAX_BYTES, MAX_LINES};
 
-use crate::coverage::{can_fail, classify, rules_of, Class, Coverage};
+use crate::coverage::{can_fail, classify, rules_of, Class, Coverage, Subject};
 use crate::examples::read_examples;
 use crate::made::{made, refutations};
 use crate::second_answer;
@@ -23,7 +23,7 @@ pub const LONGEST: usize = MAX_BYTES + 1;
 /// The seeds that are looked at for generated texts.
 const SEEDS: std::ops::Range<u64> = 0..40_000;
 /// Generated texts are at most so long, but for the long ones.
-const SMALL: usize = 600;
+const SMALL: usize = 700;
 /// The long ones lie between, and there are so many of them.
 const LONG: std::ops::RangeInclusive<usize> = 8_000..=40_000;
 const LONG_TEXTS: u64 = 8;
@@ -69,6 +69,10 @@ const LIMITS: [(&str, &str, &str); KINDS] = [
     ("8 parts of a term", "open", "refused 6"),
     ("symbol 255", "open", "refused 6"),
     ("the last line's end", "open", "refused 2"),
+    ("16 parts of a molecule", "open", "refused 5"),
+    ("16 parts by mer", "open", "refused 5"),
+    ("the last part", "open", "refused 9"),
+    ("2 parts of a molecule", "open", "refused 2"),
 ];
 /// Numbers around 65,535, with leading zeros, and past every machine word.
 const NUMBERS: [&str; 16] = [
@@ -225,6 +229,17 @@ impl Corpus {
                 lines.push(format!("(in (or (+ ({word} {a} {a} ({a} {a}) {term}))))"));
                 lines.push(format!("(in (or (- ({word} {a} {a} ({term}) none))))"));
             }
+            let part = format!("(mv {a} ({a}) {a})");
+            lines.push(format!("(in (or (+ (mol {term} {part} {part}))))"));
+            for other in [
+                format!("(mv {term} ({a}) {a})"),
+                format!("(mv {a} ({term}) {a})"),
+                format!("(mv {a} ({a}) {term})"),
+                format!("(mv {a} ({term}) none)"),
+            ] {
+                lines.push(format!("(in (or (+ (mol {a} {other} {part}))))"));
+                lines.push(format!("(in (or (- (mol {a} {part} {other}))))"));
+            }
             let refl = |list: &str, other: &str, claim: &str| {
                 format!("(by refl 0 0 0 0 0 (let {list}) (let{other}) (or (+ (sub {claim}))))")
             };
@@ -242,7 +257,12 @@ impl Corpus {
             for word in ["sv", "si", "mv", "mi", "st", "mt"] {
                 lines.push(format!("(in (or (+ ({word} {a} {a} ({row}) {a}))))"));
                 lines.push(format!("(in (or (- ({word} {a} {a} ({row}) none))))"));
+                lines.push(format!(
+                    "(in (or (+ (mol {a} ({word} {a} () {a}) ({word} {a} ({row}) {a})))))"
+                ));
             }
+            let parts = format!(" (mt {a} ({a}) none)").repeat(count);
+            lines.push(format!("(in (or (- (mol {a}{parts}))))"));
             let list = format!("(let {row})").replace("(let )", "(let)");
             let literals = format!(" (- (obj {a}))").repeat(count);
             lines.push(format!(
@@ -362,9 +382,9 @@ impl Corpus {
     /// What is missing: each verdict, refutations that don't need all their
     /// inputs, each number, each limit with its kinds of verdicts, each rule
     /// accepted, each rule refused by each number from 7 to 11 that it can
-    /// fail, and signatures with none, accepted by inh and inp and refused by
-    /// out. A text that doesn't get the answer that it is made for is told as
-    /// well.
+    /// fail, signatures with none, accepted by inh and inp and refused by out,
+    /// and molecules at I and at J. A text that doesn't get the answer that it
+    /// is made for is told as well.
     pub fn missing(&self) -> Vec<String> {
         let mut missing = self.wrong.clone();
         let mut want = |times: u64, least: u64, what: String| {
@@ -399,6 +419,11 @@ impl Corpus {
         }
         let refused = coverage.bare("out", Some(9));
         want(refused, 10, "out by none refused 9".into());
+        for (rule, subject, number) in wanted_of_molecules() {
+            let verdict = number.map_or("accepted".into(), |number| format!("refused {number}"));
+            let times = coverage.on(subject, rule, number);
+            want(times, 10, format!("{rule}, {subject:?}, {verdict}"));
+        }
         missing.extend(self.missing_limits());
         missing
     }
@@ -434,6 +459,27 @@ impl Corpus {
         let answers = self.texts.iter().flat_map(|text| second_answer(text));
         answers.collect()
     }
+}
+
+/// What is wanted of steps on molecules: that the rules that take one at I or at
+/// J are accepted, and refused for it where they look at it, and that all others
+/// are refused by 9.
+fn wanted_of_molecules() -> Vec<(&'static str, Subject, Option<u8>)> {
+    let (first, second) = (Subject::MoleculeAtI, Subject::MoleculeAtJ);
+    let mut wanted = Vec::new();
+    for rule in RULES.into_iter().filter(|rule| *rule != "refl") {
+        let (at_first, at_second): (&[u8], &[u8]) = match rule {
+            "res" | "fac" | "mer" => (&[0, 9, 10, 11], &[0, 9, 10, 11]),
+            "par" => (&[0, 9, 10, 11], &[9]),
+            "pro" => (&[0, 9, 11], &[]),
+            _ if uses_second(rule) => (&[9], &[9]),
+            _ => (&[9], &[]),
+        };
+        let number = |number: &u8| (*number > 0).then_some(*number);
+        wanted.extend(at_first.iter().map(|n| (rule, first, number(n))));
+        wanted.extend(at_second.iter().map(|n| (rule, second, number(n))));
+    }
+    wanted
 }
 
 /// Whether a text is refuted and one of its inputs is not needed for that.

@@ -1,11 +1,11 @@
 //! What a set of texts covers: the verdicts, and for each rule how many steps
 //! were accepted and how many texts each number refused at such a step; the
-//! same for steps on a signature with none.
+//! same for steps on a signature with none, and on a molecule.
 
 use std::collections::{BTreeMap, BTreeSet};
 use std::fmt;
 
-use second::generate::model::RULES;
+use second::generate::model::{uses_first, uses_second, RULES};
 use second::{check, Verdict};
 
 use crate::made::literals;
@@ -71,26 +71,67 @@ pub fn rules_of(text: &[u8]) -> Vec<&'static str> {
         .collect()
 }
 
-/// The steps of a text that have a positive signature with none at I: the
-/// number of the line, and the rule.
-fn bare_steps(text: &str) -> Vec<(usize, &'static str)> {
+/// What a step is looked at for.
+#[derive(Clone, Copy, Debug, PartialEq, Eq, PartialOrd, Ord)]
+pub enum Subject {
+    /// A positive signature with none at I.
+    Bare,
+    /// A molecule at I.
+    MoleculeAtI,
+    /// A molecule at J.
+    MoleculeAtJ,
+}
+
+/// The steps of a text on one of the subjects: the number of the line, and the
+/// rule.
+fn steps_on_subjects(text: &str) -> Vec<(usize, &'static str, Subject)> {
     let mut clauses: Vec<Vec<String>> = Vec::new();
     let mut steps = Vec::new();
-    for (number, line) in (1..).zip(text.lines()) {
+    for (line_number, line) in (1..).zip(text.lines()) {
         let Some((start, clause)) = line.split_once("(or") else {
             continue;
         };
         let words: Vec<&str> = start.split(' ').collect();
-        if let ["(by", rule, a, i, ..] = words[..] {
-            let rule = RULES.into_iter().find(|known| *known == rule);
-            let [a, i] = [a, i].map(|word| word.parse().unwrap_or(usize::MAX));
-            let literal = clauses.get(a).and_then(|clause| clause.get(i));
-            let bare = literal.is_some_and(|literal| is_bare(literal));
-            steps.extend(rule.filter(|_| bare).map(|rule| (number, rule)));
+        if let ["(by", word, a, i, b, j, ..] = words[..] {
+            let numbers = [a, i, b, j].map(|word| word.parse().unwrap_or(usize::MAX));
+            if let Some(rule) = RULES.into_iter().find(|known| *known == word) {
+                let subjects = subjects(&clauses, rule, numbers);
+                steps.extend(subjects.map(|subject| (line_number, rule, subject)));
+            }
         }
         clauses.push(literals(clause));
     }
     steps
+}
+
+/// What a step by a rule is on, by its numbers A I B J.
+fn subjects(
+    clauses: &[Vec<String>],
+    rule: &str,
+    [a, i, b, j]: [usize; 4],
+) -> impl Iterator<Item = Subject> {
+    let literal = |used: bool, clause: usize, place: usize| {
+        let clause = clauses.get(clause).filter(|_| used);
+        clause.and_then(|clause| clause.get(place))
+    };
+    let first = literal(uses_first(rule), a, i);
+    let second = match rule {
+        "fac" => literal(true, a, j),
+        _ => literal(uses_second(rule), b, j),
+    };
+    let found = [
+        (Subject::Bare, first.is_some_and(|first| is_bare(first))),
+        (
+            Subject::MoleculeAtI,
+            first.is_some_and(|first| is_molecule(first)),
+        ),
+        (
+            Subject::MoleculeAtJ,
+            second.is_some_and(|second| is_molecule(second)),
+        ),
+    ];
+    let found = found.into_iter().filter(|&(_, found)| found);
+    found.map(|(subject, _)| subject)
 }
 
 /// Whether a literal is a positive signature with none.
@@ -99,15 +140,22 @@ fn is_bare(literal: &str) -> bool {
     signature.contains(&true) && literal.contains(" none)")
 }
 
+/// Whether a literal is a molecule, of either sign.
+fn is_molecule(literal: &str) -> bool {
+    ["(+ (mol ", "(- (mol "]
+        .map(|start| literal.starts_with(start))
+        .contains(&true)
+}
+
 /// Counts over a set of texts.
 #[derive(Clone, Debug, Default)]
 pub struct Coverage {
     classes: BTreeMap<Class, u64>,
     /// The texts that are accepted and have a step by the rule.
     accepted: BTreeMap<&'static str, u64>,
-    /// The texts with a step by the rule on a signature with none that are
-    /// accepted, or refused there by the number.
-    bare: BTreeMap<(&'static str, Option<u8>), u64>,
+    /// The texts with a step by the rule on the subject that are accepted, or
+    /// refused there by the number.
+    subjects: BTreeMap<(&'static str, Subject, Option<u8>), u64>,
 }
 
 impl Coverage {
@@ -121,12 +169,12 @@ impl Coverage {
             Verdict::Refused { number, line } => Some((number, line)),
             _ => None,
         };
-        let bare = bare_steps(&String::from_utf8_lossy(text)).into_iter();
-        let bare = bare.filter(|&(step, _)| refused.is_none_or(|(_, line)| line == step));
-        let rules: BTreeSet<&str> = bare.map(|(_, rule)| rule).collect();
-        for rule in rules {
-            let key = (rule, refused.map(|(number, _)| number));
-            *self.bare.entry(key).or_default() += 1;
+        let steps = steps_on_subjects(&String::from_utf8_lossy(text)).into_iter();
+        let steps = steps.filter(|&(step, ..)| refused.is_none_or(|(_, line)| line == step));
+        let found: BTreeSet<(&str, Subject)> = steps.map(|(_, rule, on)| (rule, on)).collect();
+        for (rule, on) in found {
+            let key = (rule, on, refused.map(|(number, _)| number));
+            *self.subjects.entry(key).or_default() += 1;
         }
         let class = class_of(text, verdict);
         if matches!(class, Class::Open | Class::Refuted) {
@@ -163,10 +211,36 @@ impl Coverage {
         self.accepted.get(rule).copied().unwrap_or(0)
     }
 
-    /// The texts with a step by a rule on a signature with none that are
-    /// accepted, or refused there by the number.
+    /// The texts with a step by a rule on a subject that are accepted, or
+    /// refused there by the number.
+    pub fn on(&self, subject: Subject, rule: &'static str, refused: Option<u8>) -> u64 {
+        let key = (rule, subject, refused);
+        self.subjects.get(&key).copied().unwrap_or(0)
+    }
+
+    /// The same for a signature with none.
     pub fn bare(&self, rule: &'static str, refused: Option<u8>) -> u64 {
-        self.bare.get(&(rule, refused)).copied().unwrap_or(0)
+        self.on(Subject::Bare, rule, refused)
+    }
+
+    /// On one line the rules that were accepted on a subject, and how often; and
+    /// how often the numbers from 9 on refused any.
+    fn subject_row(&self, subject: Subject) -> String {
+        let times = RULES.map(|rule| (rule, self.on(subject, rule, None)));
+        let accepted = times.iter().filter(|(_, times)| *times > 0);
+        let accepted: Vec<String> = accepted
+            .map(|(rule, times)| format!("{rule} {times}"))
+            .collect();
+        let refused = (9..=11).map(|number| {
+            let times = RULES.map(|rule| self.on(subject, rule, Some(number)));
+            format!("{number}: {}", times.iter().sum::<u64>())
+        });
+        let refused: Vec<String> = refused.collect();
+        format!(
+            "accepted {}; refused by {}",
+            accepted.join(", "),
+            refused.join(", ")
+        )
     }
 
     /// The verdicts on one line.
@@ -180,11 +254,11 @@ impl Coverage {
 }
 
 /// Whether a step by a rule can fail one of checks 7 to 11: refl has no
-/// parent, no position and no agreement, eli no agreement.
+/// parent, no position and no agreement, eli and pro no agreement.
 pub fn can_fail(rule: &str, number: u8) -> bool {
     match rule {
         "refl" => matches!(number, 8 | 11),
-        "eli" => number != 10,
+        "eli" | "pro" => number != 10,
         _ => true,
     }
 }
@@ -216,6 +290,9 @@ impl fmt::Display for Coverage {
             f,
             "by none: inh accepted {inh}, inp accepted {inp}, out refused by 9 {out}"
         )?;
+        for (place, subject) in [("I", Subject::MoleculeAtI), ("J", Subject::MoleculeAtJ)] {
+            writeln!(f, "a molecule at {place}: {}", self.subject_row(subject))?;
+        }
         let at_end = self.refused_at("", 4);
         writeln!(f, "with line 0: by 1 {}, by 4 {at_end}", self.refused(1))
     }

@@ -10,6 +10,7 @@ mod bare;
 pub mod jobs;
 mod lines;
 mod literals;
+mod molecules;
 mod rests;
 mod steps;
 mod terms;
@@ -36,6 +37,7 @@ pub fn made() -> Vec<Made> {
         literals::texts(),
         terms::texts(),
         bare::texts(),
+        molecules::texts(),
     ]
     .concat()
 }

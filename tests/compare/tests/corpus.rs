@@ -4,7 +4,7 @@ use std::fs;
 use std::path::Path;
 
 use compare::corpus::{read_file, Corpus, LONGEST};
-use compare::coverage::Coverage;
+use compare::coverage::{Coverage, Subject};
 use compare::made::{jobs, made, refutations};
 use compare::pairs::Pairs;
 use compare::sides;
@@ -16,7 +16,7 @@ fn the_stored_corpus_is_complete_and_the_one_that_is_made() {
     assert_eq!(corpus.missing(), Vec::<String>::new());
     assert!(corpus.texts().iter().all(|text| text.len() <= LONGEST));
     let file = corpus.file();
-    assert!(file.len() < 2_600_000);
+    assert!(file.len() < 3_700_000);
     assert_eq!(read_file(&file).as_deref(), Some(corpus.texts()));
     let stored = root.join("crates/corpus");
     assert!(fs::read(stored.join("data/corpus.bin")).unwrap() == file);
@@ -93,4 +93,28 @@ fn steps_on_signatures_with_none_are_counted() {
     for name in ["rule-inh", "rule-inp", "rule-out", "refused-09", "c08"] {
         assert_eq!(counts(&format!("{name}.flogic")), [2, 2, 1]);
     }
+}
+
+#[test]
+fn steps_on_molecules_are_counted() {
+    let start = "(sym 0)\n\
+        (in (or (+ (mol (f 0) (sv (f 0) () (f 0)) (mv (f 0) () none)))))\n\
+        (in (or (- (sv (f 0) (f 0) () (f 0)))))\n";
+    let counts = |rule: &'static str, refused: Option<u8>, step: &str| {
+        let mut coverage = Coverage::default();
+        coverage.add(format!("{start}{step}\n").as_bytes());
+        [Subject::MoleculeAtI, Subject::MoleculeAtJ].map(|on| coverage.on(on, rule, refused))
+    };
+    let res = "(by res 1 0 0 0 0 (let) (let) (or))";
+    assert_eq!(counts("res", None, res), [0, 1]);
+    assert_eq!(counts("res", Some(9), res), [0, 0]);
+    assert_eq!(counts("par", None, res), [0, 0]);
+    let pro = "(by pro 0 0 0 0 K (let) (let) (or (+ (sv (f 0) (f 0) () (f 0)))))";
+    assert_eq!(counts("pro", None, &pro.replace('K', "0")), [1, 0]);
+    assert_eq!(counts("pro", Some(11), &pro.replace('K', "1")), [1, 0]);
+    assert_eq!(counts("pro", Some(9), &pro.replace('K', "2")), [1, 0]);
+    let fac = "(by fac 0 0 0 0 0 (let) (let) (or))";
+    assert_eq!(counts("fac", Some(9), fac), [1, 1]);
+    let eli = "(by eli 1 0 0 0 0 (let) (let) (or))";
+    assert_eq!(counts("eli", Some(9), eli), [0, 0]);
 }

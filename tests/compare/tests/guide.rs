@@ -57,9 +57,10 @@ fn texts_are_quoted_as_they_are() {
         rest = after;
     }
     // C1, the inputs that are used, the rules, those for provers, the refusals
-    // but the first, the paper's proof, the survey. par, inh, inp, 8, 9 and 10
-    // have two. A base and two jobs.
-    assert_eq!(texts, 1 + 1 + (12 + 3) + 3 + (10 + 3) + 1 + 3 + 3);
+    // but the first, the paper's molecules and its proof, the survey. res, fac,
+    // inh, inp, 2, 5 and 8 have two, par and 10 three, 9 four. A base and two
+    // jobs.
+    assert_eq!(texts, 1 + 1 + (14 + 6) + 3 + (10 + 8) + 7 + 4 + 3);
 }
 
 #[test]
@@ -105,7 +106,7 @@ fn mended_texts_get_the_answer_that_is_named() {
         assert_eq!(shown(&second_answer(text.as_bytes())), answer, "{name}");
         mended += 1;
     }
-    assert_eq!(mended, 13);
+    assert_eq!(mended, 17);
 }
 
 /// The guide's commands that begin so, up to an end, run in a folder.
@@ -121,7 +122,11 @@ fn run(folder: &Path, start: &str, end: &str) -> Output {
 fn the_loop_over_files_names_those_without_an_accepted_answer() {
     let folder = folder("loop");
     fs::create_dir_all(folder.join("crates/fcheck/out")).unwrap();
-    fs::rename(script(&folder, "SECOND"), folder.join("crates/fcheck/out/fcheck")).unwrap();
+    fs::rename(
+        script(&folder, "SECOND"),
+        folder.join("crates/fcheck/out/fcheck"),
+    )
+    .unwrap();
     for name in ["c01", "c02", "c04"] {
         let file = folder.join(name).with_extension("flogic");
         fs::write(file, example(name).0).unwrap();
@@ -245,6 +250,9 @@ fn statements_are_numbered_one_by_one() {
         let next = match last {
             // The checks 1 to 11 are V11 to V21.
             ('V', 4) => ('V', 11),
+            // The rules mer and pro stand in the table with the others.
+            ('R', 19) => ('R', 25),
+            ('R', 26) => ('R', 20),
             (before, count) if before == letter => (letter, count + 1),
             _ => (letter, 1),
         };
@@ -266,6 +274,7 @@ fn the_tables_of_the_text_form_are_the_second_checkers() {
         ("symbols", second::MAX_SYMBOLS),
         ("K of a sym line", second::MAX_ARITY.into()),
         ("arguments of a method", second::MAX_ARGUMENTS.into()),
+        ("parts of a molecule", second::MAX_PARTS),
         ("literals of a clause", second::MAX_LITERALS),
         ("a variable's number", second::MAX_VARIABLE.into()),
         ("terms of a LET", second::MAX_LIST_TERMS),

@@ -7,7 +7,7 @@
 //! * [`syntax`]: terms, literals, clauses and lines, as kept in memory;
 //! * `parser`: one line of text to its syntax (check 2);
 //! * `reading`: what is held from line to line (checks 3 to 6);
-//! * `rules`: the twelve rules (checks 7 to 11);
+//! * `rules`: the fourteen rules (checks 7 to 11);
 //! * `descent`: the inputs that a refutation rests on;
 //! * `job`: a text in two parts, a base and a job;
 //! * [`generate`]: the generator of test texts.
@@ -36,6 +36,8 @@ pub const MAX_SYMBOLS: usize = 256;
 pub const MAX_ARITY: u16 = 8;
 /// T18: "arguments of a method".
 pub const MAX_ARGUMENTS: u16 = 8;
+/// T18: "parts of a molecule".
+pub const MAX_PARTS: usize = 16;
 /// T18: "literals of a clause".
 pub const MAX_LITERALS: usize = 32;
 /// T18: "a variable's number".

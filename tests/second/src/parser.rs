@@ -116,7 +116,7 @@ impl<'a> Cursor<'a> {
             if !positive {
                 self.expect(b"(- ")?;
             }
-            let head = self.atom(clause.nodes_mut())?;
+            let head = self.atom(&mut clause)?;
             clause.end_literal(positive, head);
             self.expect(b")")?;
         }
@@ -125,41 +125,59 @@ impl<'a> Cursor<'a> {
     }
 
     /// T13: "`(eq T U)` is equality; `(mem T U)` is T : U; `(sub T U)` is T ::
-    /// U; `(obj T)` is T[]; `(ARROW O M (T ...) R)` has the object O". The
-    /// terms go to `nodes`.
-    fn atom(&mut self, nodes: &mut Vec<Node>) -> Option<Head> {
+    /// U; `(obj T)` is T[]; `(ARROW O M (T ...) R)` has the object O". T21:
+    /// "`(mol T PART PART ...)`, a molecule". The terms and the parts go to the
+    /// clause.
+    fn atom(&mut self, clause: &mut Clause) -> Option<Head> {
         self.expect(b"(")?;
         let head = match self.word() {
-            b"eq" => self.spaced_terms(nodes, 2, Head::Equality),
-            b"mem" => self.spaced_terms(nodes, 2, Head::Membership),
-            b"sub" => self.spaced_terms(nodes, 2, Head::Subclass),
-            b"obj" => self.spaced_terms(nodes, 1, Head::Object),
-            word => self.arrow_atom(nodes, arrow(word)?),
+            b"eq" => self.spaced_terms(clause, 2, Head::Equality),
+            b"mem" => self.spaced_terms(clause, 2, Head::Membership),
+            b"sub" => self.spaced_terms(clause, 2, Head::Subclass),
+            b"obj" => self.spaced_terms(clause, 1, Head::Object),
+            b"mol" => self.molecule(clause),
+            word => self.arrow_atom(clause, arrow(word)?),
         }?;
         self.expect(b")")?;
         Some(head)
     }
 
-    /// The terms of an atom that isn't an arrow, a space before each.
-    fn spaced_terms(&mut self, nodes: &mut Vec<Node>, count: usize, head: Head) -> Option<Head> {
+    /// So many terms, a space before each.
+    fn spaced_terms(&mut self, clause: &mut Clause, count: usize, head: Head) -> Option<Head> {
         for _ in 0..count {
             self.expect(b" ")?;
-            self.term(nodes, MAX_DEPTH)?;
+            self.term(clause.nodes_mut(), MAX_DEPTH)?;
         }
         Some(head)
     }
 
     /// T13: "the object O, the method M, the arguments T ..., perhaps none at
     /// all, and the result R", from the space before the object on.
-    fn arrow_atom(&mut self, nodes: &mut Vec<Node>, arrow: Arrow) -> Option<Head> {
-        self.expect(b" ")?;
-        self.term(nodes, MAX_DEPTH)?;
-        self.expect(b" ")?;
-        Some(Head::Arrow(self.part(nodes, arrow)?))
+    fn arrow_atom(&mut self, clause: &mut Clause, arrow: Arrow) -> Option<Head> {
+        let head = self.spaced_terms(clause, 1, Head::Parts)?;
+        self.part(clause, arrow)?;
+        Some(head)
     }
 
-    /// A part, from its method on.
-    fn part(&mut self, nodes: &mut Vec<Node>, arrow: Arrow) -> Option<Part> {
+    /// T21: "the object T and two parts or more; a PART is `(ARROW M (T ...)
+    /// R)`", from the space before the object on. "With fewer than two parts it
+    /// isn't a form."
+    fn molecule(&mut self, clause: &mut Clause) -> Option<Head> {
+        let head = self.spaced_terms(clause, 1, Head::Parts)?;
+        let mut parts = 0;
+        while self.accept(b" (") {
+            let arrow = arrow(self.word())?;
+            self.part(clause, arrow)?;
+            self.expect(b")")?;
+            parts += 1;
+        }
+        (parts >= 2).then_some(head)
+    }
+
+    /// A part, from the space before its method on.
+    fn part(&mut self, clause: &mut Clause, arrow: Arrow) -> Option<()> {
+        let nodes = clause.nodes_mut();
+        self.expect(b" ")?;
         self.term(nodes, MAX_DEPTH)?;
         self.expect(b" (")?;
         let mut arguments: u16 = 0;
@@ -178,11 +196,12 @@ impl<'a> Cursor<'a> {
         if has_result {
             self.term(nodes, MAX_DEPTH)?;
         }
-        Some(Part {
+        clause.add_part(Part {
             arrow,
             arguments,
             has_result,
-        })
+        });
+        Some(())
     }
 
     /// T11: "`(v N)` is variable N. `(f N TERM ...)` is symbol N applied to the
@@ -208,8 +227,8 @@ impl<'a> Cursor<'a> {
     }
 }
 
-/// T10: "RULE is one of the twelve words (R8 to R19). A line with any other
-/// isn't a form."
+/// T10: "RULE is one of the fourteen words (R8 to R19, R25, R26). A line with
+/// any other isn't a form."
 fn rule(word: &[u8]) -> Option<Rule> {
     Some(match word {
         b"refl" => Rule::Reflexivity,
@@ -224,6 +243,8 @@ fn rule(word: &[u8]) -> Option<Rule> {
         b"out" => Rule::OutputRelaxation,
         b"sca" => Rule::Scalarity,
         b"eli" => Rule::Elimination,
+        b"mer" => Rule::Merging,
+        b"pro" => Rule::Projection,
         _ => return None,
     })
 }

@@ -3,10 +3,10 @@
 use crate::descent::{rests_on, Parents};
 use crate::parser::parse_line;
 use crate::rules::{check_step, used_parents};
-use crate::syntax::{Clause, Head, Line, Node, Step};
+use crate::syntax::{Clause, Line, Literal, Node, Step};
 use crate::{
-    Answer, Check, Verdict, MAX_ARGUMENTS, MAX_ARITY, MAX_LIST_TERMS, MAX_LITERALS, MAX_SYMBOLS,
-    MAX_VARIABLE,
+    Answer, Check, Verdict, MAX_ARGUMENTS, MAX_ARITY, MAX_LIST_TERMS, MAX_LITERALS, MAX_PARTS,
+    MAX_SYMBOLS, MAX_VARIABLE,
 };
 
 /// T19: "After each line the reading holds the argument counts of up to 256
@@ -119,14 +119,15 @@ impl Reading {
     }
 }
 
-/// T18: "arguments of a method", "literals of a clause", "a variable's number".
+/// T18: "arguments of a method", "parts of a molecule", "literals of a clause",
+/// "a variable's number".
 fn clause_within_limits(clause: &Clause) -> bool {
-    let arguments_fit = |head| match head {
-        Head::Arrow(part) => part.arguments <= MAX_ARGUMENTS,
-        _ => true,
+    let parts_fit = |literal: Literal| {
+        let mut parts = literal.parts.iter();
+        literal.parts.len() <= MAX_PARTS && parts.all(|part| part.arguments <= MAX_ARGUMENTS)
     };
     clause.len() <= MAX_LITERALS
-        && clause.literals().all(|literal| arguments_fit(literal.head))
+        && clause.literals().all(parts_fit)
         && variables_within_limit(clause.nodes())
 }
 

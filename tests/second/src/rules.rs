@@ -1,4 +1,4 @@
-//! The twelve rules (R8 to R19), checks 7 to 11 (V17 to V21).
+//! The fourteen rules (R8 to R19, R25, R26), checks 7 to 11 (V17 to V21).
 //!
 //! Nothing is copied to be filled: a filled part of a clause is walked node
 //! by node, with the list's terms put in for variables on the way.
@@ -71,6 +71,8 @@ fn uses(rule: Rule) -> [bool; 5] {
         Rule::OutputRelaxation => [YES, YES, YES, YES, NO],
         Rule::Scalarity => [YES, YES, YES, YES, NO],
         Rule::Elimination => [YES, YES, NO, NO, NO],
+        Rule::Merging => [YES, YES, YES, YES, NO],
+        Rule::Projection => [YES, YES, NO, NO, YES],
     }
 }
 
@@ -90,8 +92,8 @@ struct Conclusion<'a> {
     dropped: usize,
 }
 
-/// Checks 9 and 10: one arm for each row of the rule table, R8 to R19. In each
-/// arm the whole shape is tested before the agreement.
+/// Checks 9 and 10: one arm for each row of the rule table, R8 to R19, R25 and
+/// R26. In each arm the whole shape is tested before the agreement.
 fn conclude<'a>(
     rule: Rule,
     a: Parent<'a>,
@@ -109,23 +111,23 @@ fn conclude<'a>(
             };
             Some(FilledLiteral::pair(Head::Subclass, term, term))
         }
-        // R9, res: "- L, + L'", "L' covers L". R23: "res and eli drop the
-        // literals that they name."
+        // R9, res: "- L, + L'", "L fits into L' (R24)". R23: "res and eli drop
+        // the literals that they name."
         Rule::Resolution => {
             let (first, second) = (a.premise(i)?, b.premise(j)?);
             Check::Shape.require(!first.literal.positive && second.literal.positive)?;
-            Check::Agreement.require(second.covers(first))?;
+            Check::Agreement.require(first.fits_into(second))?;
             None
         }
         // R10, fac: "A only; I and J differ, both literals have the same sign",
-        // "the literal at J covers the one at I". R22: "For fac the claim is A
-        // without the literal at J where the two are positive, and without the
-        // literal at I where they are negative."
+        // "the literal at I fits into the one at J (R24)". R22: "For fac the
+        // claim is A without the literal at J where the two are positive, and
+        // without the literal at I where they are negative."
         Rule::Factoring => {
             let (first, second) = (a.premise(i)?, a.premise(j)?);
             let positive = first.literal.positive;
             Check::Shape.require(i != j && positive == second.literal.positive)?;
-            Check::Agreement.require(second.covers(first))?;
+            Check::Agreement.require(first.fits_into(second))?;
             dropped = if positive { j } else { i };
             None
         }
@@ -178,14 +180,10 @@ fn conclude<'a>(
         // arrow, argument count, object, method, arguments", new "+ eq(R,R')".
         Rule::Scalarity => {
             let (first, second) = (a.premise(i)?, b.premise(j)?);
-            let (one, other) = (first.scalar()?, second.scalar()?);
-            Check::Agreement
-                .require(one.object.equals(other.object) && one.said.is_alike(other.said))?;
-            Some(FilledLiteral::pair(
-                Head::Equality,
-                one.said.result(),
-                other.said.result(),
-            ))
+            let ((object, said), (other_object, other)) = (first.scalar()?, second.scalar()?);
+            Check::Agreement.require(object.equals(other_object) && said.is_alike(other))?;
+            let (result, other_result) = (said.result(), other.result());
+            Some(FilledLiteral::pair(Head::Equality, result, other_result))
         }
         // R19, eli: "A only; - obj(P) at I". R23 drops it.
         Rule::Elimination => {
@@ -193,11 +191,37 @@ fn conclude<'a>(
             Check::Shape.require(!literal.positive && literal.head == Head::Object)?;
             None
         }
+        // R25, mer: "two + arrow atoms or molecules, with objects P and P'",
+        // "P = P'", new "+ the molecule with object P, A's parts, then B's".
+        Rule::Merging => {
+            let (first, second) = (a.premise(i)?, b.premise(j)?);
+            let (one, other) = (first.positive_molecule()?, second.positive_molecule()?);
+            Check::Agreement.require(one.object.equals(other.object))?;
+            Some(FilledLiteral {
+                positive: true,
+                head: Head::Parts,
+                parts: [one.parts, other.parts],
+                terms: [one.object, one.terms, other.terms],
+            })
+        }
+        // R26, pro: "A only; + a molecule with object P and a part K, counted
+        // from 0", new "+ the arrow atom of P and that part".
+        Rule::Projection => {
+            let molecule = a.premise(i)?.positive_molecule()?;
+            Check::Shape.require(molecule.parts.len() > 1)?;
+            let said = molecule.each_part().nth(k).ok_or(Check::Shape)?;
+            Some(FilledLiteral {
+                positive: true,
+                head: Head::Parts,
+                parts: [&molecule.parts[k..=k], &[]],
+                terms: [molecule.object, said.terms, Filled::nothing(a.list)],
+            })
+        }
     };
     Ok(Conclusion { new, dropped })
 }
 
-/// The place of an arrow atom's object among its terms.
+/// The place of the object among the terms of an arrow atom or a molecule.
 const OBJECT: usize = 0;
 /// The place of an arrow atom's first argument, after object and method; the
 /// result follows the last argument.
@@ -262,6 +286,11 @@ struct Filled<'a> {
 }
 
 impl<'a> Filled<'a> {
+    /// No terms.
+    fn nothing(list: &'a Substitution) -> Self {
+        Filled { nodes: &[], list }
+    }
+
     /// The nodes in preorder once every variable is filled.
     fn walk(self) -> impl Iterator<Item = &'a Node> {
         (self.nodes.iter()).flat_map(move |node| self.list.fill(node))
@@ -273,7 +302,7 @@ impl<'a> Filled<'a> {
     }
 }
 
-/// A part of an arrow atom, its terms filled.
+/// A part of an arrow atom or a molecule, its terms filled.
 #[derive(Clone, Copy)]
 struct FilledPart<'a> {
     part: Part,
@@ -314,10 +343,34 @@ impl<'a> FilledPart<'a> {
     }
 }
 
-/// An arrow atom, filled: its object and its part.
-struct ArrowAtom<'a> {
+/// A molecule, or an arrow atom as one with a single part, filled.
+#[derive(Clone, Copy)]
+struct Molecule<'a> {
     object: Filled<'a>,
-    said: FilledPart<'a>,
+    parts: &'a [Part],
+    /// The terms of all parts, one after another.
+    terms: Filled<'a>,
+}
+
+impl<'a> Molecule<'a> {
+    /// Its parts in order, each with its own terms.
+    fn each_part(self) -> impl Iterator<Item = FilledPart<'a>> {
+        let Filled { mut nodes, list } = self.terms;
+        self.parts.iter().map(move |&part| {
+            let (own, behind) = nodes.split_at(first_terms_len(nodes, part.terms()));
+            nodes = behind;
+            let terms = Filled { nodes: own, list };
+            FilledPart { part, terms }
+        })
+    }
+
+    /// R24: "if their objects are equal and each part of X is covered by some
+    /// part of Y; a part covers another as R4 says."
+    fn fits_into(self, other: Molecule<'_>) -> bool {
+        let others: Vec<FilledPart> = other.each_part().collect();
+        let is_covered = |part| others.iter().any(|other| other.covers(part));
+        self.object.equals(other.object) && self.each_part().all(is_covered)
+    }
 }
 
 /// A literal of a parent that the step names, with the list that fills it.
@@ -356,41 +409,53 @@ impl<'a> Premise<'a> {
     /// The number of arguments of a literal that must be, R15 to R17, "+ st or
     /// mt", with any result.
     fn signature_arguments(self) -> Result<usize, Check> {
-        match self.literal.head {
-            Head::Arrow(part) if self.literal.positive && part.arrow.is_signature() => {
+        match self.literal.parts {
+            [part] if self.literal.positive && part.arrow.is_signature() => {
                 Ok(part.arguments.into())
             }
             _ => Err(Check::Shape),
         }
     }
 
-    /// The object and the part of an arrow atom.
-    fn arrow_atom(self) -> Option<ArrowAtom<'a>> {
-        let Head::Arrow(part) = self.literal.head else {
+    /// The molecule of a literal that is one, or an arrow atom.
+    fn molecule(self) -> Option<Molecule<'a>> {
+        if self.literal.head != Head::Parts {
             return None;
-        };
+        }
         let object = self.literal.place(OBJECT)?;
-        let terms = self.nodes(object.end..self.literal.nodes.len());
-        Some(ArrowAtom {
-            object: self.nodes(object),
-            said: FilledPart { part, terms },
+        Some(Molecule {
+            object: self.nodes(object.clone()),
+            parts: self.literal.parts,
+            terms: self.nodes(object.end..self.literal.nodes.len()),
         })
     }
 
-    /// The atom of a literal that must be, R18, "+ sv or si".
-    fn scalar(self) -> Result<ArrowAtom<'a>, Check> {
-        let atom = self.arrow_atom().ok_or(Check::Shape)?;
-        Check::Shape.require(self.literal.positive && atom.said.part.arrow.is_scalar())?;
-        Ok(atom)
+    /// The molecule of a literal that must be one, or an arrow atom, and
+    /// positive.
+    fn positive_molecule(self) -> Result<Molecule<'a>, Check> {
+        Check::Shape.require(self.literal.positive)?;
+        self.molecule().ok_or(Check::Shape)
     }
 
-    /// R4: "X *covers* Y if they are equal, or if Y is X with none in place of a
-    /// term result." Only the atoms are compared.
-    fn covers(self, other: Premise<'_>) -> bool {
-        match (self.arrow_atom(), other.arrow_atom()) {
-            (Some(atom), Some(covered)) => {
-                atom.object.equals(covered.object) && atom.said.covers(covered.said)
-            }
+    /// The object and the part of a literal that must be, R18, "+ sv or si".
+    fn scalar(self) -> Result<(Filled<'a>, FilledPart<'a>), Check> {
+        let Molecule {
+            object,
+            parts,
+            terms,
+        } = self.positive_molecule()?;
+        match *parts {
+            [part] if part.arrow.is_scalar() => Ok((object, FilledPart { part, terms })),
+            _ => Err(Check::Shape),
+        }
+    }
+
+    /// R24: "X *fits into* Y, both arrow atoms or molecules", and "Any other
+    /// atom fits into one that covers it (R4)." R4: "if they are equal". Only
+    /// the atoms are compared.
+    fn fits_into(self, other: Premise<'_>) -> bool {
+        match (self.molecule(), other.molecule()) {
+            (Some(molecule), Some(other)) => molecule.fits_into(other),
             _ => self.literal.head == other.literal.head && self.terms().equals(other.terms()),
         }
     }
@@ -407,6 +472,7 @@ impl<'a> Premise<'a> {
         Ok(FilledLiteral {
             positive: self.literal.positive,
             head: self.literal.head,
+            parts: [self.literal.parts, &[]],
             terms: [
                 self.nodes(0..range.start),
                 to,
@@ -416,21 +482,23 @@ impl<'a> Premise<'a> {
     }
 }
 
-/// A literal of the conclusion: its terms are those of three parts, one after
-/// another, each filled by its own list.
+/// A literal of the conclusion: its parts are those of two rows, one after
+/// another, and its terms those of three rows, each filled by its own list.
 struct FilledLiteral<'a> {
     positive: bool,
     head: Head,
+    parts: [&'a [Part]; 2],
     terms: [Filled<'a>; 3],
 }
 
 impl<'a> FilledLiteral<'a> {
     /// A literal of a parent as it is, filled.
     fn whole(literal: Literal<'a>, list: &'a Substitution) -> Self {
-        let none = Filled { nodes: &[], list };
+        let none = Filled::nothing(list);
         FilledLiteral {
             positive: literal.positive,
             head: literal.head,
+            parts: [literal.parts, &[]],
             terms: [
                 Filled {
                     nodes: literal.nodes,
@@ -444,13 +512,11 @@ impl<'a> FilledLiteral<'a> {
 
     /// A new positive literal of two terms.
     fn pair(head: Head, left: Filled<'a>, right: Filled<'a>) -> Self {
-        let none = Filled {
-            nodes: &[],
-            list: right.list,
-        };
+        let none = Filled::nothing(right.list);
         FilledLiteral {
             positive: true,
             head,
+            parts: [&[], &[]],
             terms: [left, right, none],
         }
     }
@@ -459,8 +525,9 @@ impl<'a> FilledLiteral<'a> {
     fn equals(&self, literal: Literal<'_>) -> bool {
         self.positive == literal.positive
             && self.head == literal.head
+            && self.parts.into_iter().flatten().eq(literal.parts)
             && (self.terms.iter())
-                .flat_map(|part| part.walk())
+                .flat_map(|terms| terms.walk())
                 .eq(literal.nodes)
     }
 }

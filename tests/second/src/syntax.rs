@@ -1,4 +1,4 @@
-//! Terms, literals, clauses and lines (T7 to T16), as kept in memory.
+//! Terms, literals, clauses and lines (T7 to T16, T21), as kept in memory.
 //!
 //! Terms are kept flat, in preorder: a term stands before its parts, and the
 //! parts follow from left to right. Each application carries the number of
@@ -82,8 +82,9 @@ impl Arrow {
     }
 }
 
-/// What an arrow atom (T13) says of its object, but for the terms: method,
-/// arguments and, unless the result is `none`, the result.
+/// What an arrow atom (T13) or a part of a molecule (T21) says of its object,
+/// but for the terms: method, arguments and, unless the result is `none`, the
+/// result.
 #[derive(Clone, Copy, Debug, PartialEq, Eq)]
 pub struct Part {
     pub arrow: Arrow,
@@ -97,6 +98,11 @@ impl Part {
         1 + usize::from(self.arguments)
     }
 
+    /// The number of all its terms.
+    pub fn terms(self) -> usize {
+        self.call_terms() + usize::from(self.has_result)
+    }
+
     /// R4: the part "with none in place of a term result".
     pub fn emptied(self) -> Part {
         Part {
@@ -106,8 +112,8 @@ impl Part {
     }
 }
 
-/// All of an atom (T13) but its terms. Atoms of equal head have equally many
-/// terms in the same places.
+/// The kind of an atom (T13, T21). Atoms of equal head and parts have equally
+/// many terms in the same places.
 #[derive(Clone, Copy, Debug, PartialEq, Eq)]
 pub enum Head {
     /// `(eq T U)`
@@ -118,8 +124,9 @@ pub enum Head {
     Subclass,
     /// `(obj T)`
     Object,
-    /// `(ARROW O M (T ...) R)`: the terms are the object and those of the part.
-    Arrow(Part),
+    /// `(ARROW O M (T ...) R)`, with one part, or `(mol T PART PART ...)`, with
+    /// two or more: the terms are the object and those of the parts.
+    Parts,
 }
 
 /// T16: "`(+ ATOM)` is a positive literal, `(- ATOM)` a negative one." It is a
@@ -128,6 +135,8 @@ pub enum Head {
 pub struct Literal<'a> {
     pub positive: bool,
     pub head: Head,
+    /// The parts of an arrow atom, one, or of a molecule; others have none.
+    pub parts: &'a [Part],
     /// The terms of the atom, one after another.
     pub nodes: &'a [Node],
 }
@@ -137,7 +146,9 @@ impl Literal<'_> {
     ///
     /// R20: "Occurrences are counted from 0 in the literal at I as it is before
     /// filling, from left to right, a term before its parts, variables
-    /// included." That is the preorder, so occurrence K starts at node K.
+    /// included: of a molecule in its object, then part by part in the method,
+    /// the arguments and the result." That is the preorder, so occurrence K
+    /// starts at node K.
     pub fn occurrence(&self, start: usize) -> Option<Range<usize>> {
         let tail = self.nodes.get(start..).filter(|tail| !tail.is_empty())?;
         Some(start..start + first_term_len(tail))
@@ -154,17 +165,19 @@ impl Literal<'_> {
     }
 }
 
-/// The part of a literal that a clause stores besides its nodes.
+/// What a clause stores of a literal besides its parts and nodes.
 #[derive(Clone, Debug)]
 struct StoredLiteral {
     positive: bool,
     head: Head,
+    parts: Range<usize>,
     nodes: Range<usize>,
 }
 
 /// T16: "`(or LIT ...)` is the clause of these literals, `(or)` the empty one."
 #[derive(Clone, Debug, Default)]
 pub struct Clause {
+    parts: Vec<Part>,
     nodes: Vec<Node>,
     literals: Vec<StoredLiteral>,
     variable_bound: usize,
@@ -206,9 +219,16 @@ impl Clause {
         &mut self.nodes
     }
 
-    /// Makes all nodes written since the last literal into a literal.
+    /// Adds a part to the next literal.
+    pub(crate) fn add_part(&mut self, part: Part) {
+        self.parts.push(part);
+    }
+
+    /// Makes all parts and nodes written since the last literal into a literal.
     pub(crate) fn end_literal(&mut self, positive: bool, head: Head) {
-        let start = self.literals.last().map_or(0, |last| last.nodes.end);
+        let last = self.literals.last();
+        let part = last.map_or(0, |last| last.parts.end);
+        let start = last.map_or(0, |last| last.nodes.end);
         for node in &self.nodes[start..] {
             if let Node::Variable(number) = *node {
                 self.variable_bound = self.variable_bound.max(usize::from(number) + 1);
@@ -217,6 +237,7 @@ impl Clause {
         self.literals.push(StoredLiteral {
             positive,
             head,
+            parts: part..self.parts.len(),
             nodes: start..self.nodes.len(),
         });
     }
@@ -225,6 +246,7 @@ impl Clause {
         Literal {
             positive: stored.positive,
             head: stored.head,
+            parts: &self.parts[stored.parts.clone()],
             nodes: &self.nodes[stored.nodes.clone()],
         }
     }
@@ -275,7 +297,7 @@ impl Substitution {
     }
 }
 
-/// A word of the rule table (R8 to R19).
+/// A word of the rule table (R8 to R19, R25, R26).
 #[derive(Clone, Copy, Debug, PartialEq, Eq)]
 pub enum Rule {
     /// `refl`: reflexivity of sub.
@@ -302,6 +324,10 @@ pub enum Rule {
     Scalarity,
     /// `eli`: elimination of a negative obj literal.
     Elimination,
+    /// `mer`: merging of two molecules or arrow atoms.
+    Merging,
+    /// `pro`: projection of a molecule to one part.
+    Projection,
 }
 
 /// T9: "`(by RULE A I B J K LET LET CLAUSE)` is a step."

@@ -140,6 +140,92 @@ fn check_2_inputs() {
 }
 
 #[test]
+fn check_2_molecules() {
+    for atom in [
+        "(mol)",
+        "(mol A)",
+        // One part.
+        "(mol A (sv A () A))",
+        "(mol A (mv A (A) none))",
+        "(mol A A A)",
+        "(mol A (sv A () A) A)",
+        "(mol A A (sv A () A))",
+        "(mol A (sv A () A) none)",
+        "(mol A (sv A () A) ())",
+        "(mol A () (sv A () A))",
+        "(mol (sv A () A) (sv A () A))",
+        "(mol (sv A () A) A (sv A () A))",
+        "(mol none (sv A () A) (sv A () A))",
+        // Parts that have an object, or lack something.
+        "(mol A (sv A () A) (sv A A () A))",
+        "(mol A (sv A A () A) (sv A () A))",
+        "(mol A (sv A () A) (sv () A))",
+        "(mol A (sv A () A) (sv A A))",
+        "(mol A (sv A () A) (sv A ()))",
+        "(mol A (sv A () A) (sv A () A A))",
+        "(mol A (sv A () A) (sv A ( ) A))",
+        "(mol A (sv A () A) (sv A (A ) A))",
+        "(mol A (sv A () A) (sv A (none) A))",
+        "(mol A (sv A () A) (sv none () A))",
+        "(mol A (sv A () none) (sv A () A))",
+        "(mol A (sv A () A) (si A (A) none))",
+        "(mol A (mv A () none none) (sv A () A))",
+        // Words that no part begins with.
+        "(mol A (sv A () A) (sw A () A))",
+        "(mol A (sv A () A) (eq A A))",
+        "(mol A (sv A () A) (obj A))",
+        "(mol A (sv A () A) (A () A))",
+        "(mol A (sv A () A) (mol A () A))",
+        // One inside another.
+        "(mol A (sv A () A) (mol A (sv A () A) (sv A () A)))",
+        "(mol (mol A (sv A () A) (sv A () A)) (sv A () A) (sv A () A))",
+        // Spaces and brackets.
+        "(mol  A (sv A () A) (sv A () A))",
+        "(mol A  (sv A () A) (sv A () A))",
+        "(mol A (sv A () A)  (sv A () A))",
+        "(mol A (sv A () A)(sv A () A))",
+        "(mol A(sv A () A) (sv A () A))",
+        "(mol A (sv A () A) (sv A () A) )",
+        "(mol A ( sv A () A) (sv A () A))",
+        "(mol A (sv A () A ) (sv A () A))",
+        "(mol A (sv  A () A) (sv A () A))",
+        "(mol A ((sv A () A) (sv A () A)))",
+        "(mol A (sv A () A) (sv A () A)",
+        "(mols A (sv A () A) (sv A () A))",
+        "(mo A (sv A () A) (sv A () A))",
+        "(Mol A (sv A () A) (sv A () A))",
+        "(sv A (sv A () A) (sv A () A))",
+    ] {
+        for sign in ["+", "-"] {
+            let line = format!("(in (or ({sign} {atom})))");
+            assert_eq!(last(&[], &line), 2, "{line}");
+        }
+    }
+    // A part too deep, and one that is no form behind one past every limit.
+    let deep = "(f 3 ".repeat(16) + "A" + &")".repeat(16);
+    for part in [
+        format!("(sv {deep} () A)"),
+        format!("(sv A ({deep}) A)"),
+        format!("(mv A () {deep})"),
+    ] {
+        let line = format!("(in (or (+ (mol A (mv A () none) {part}))))");
+        assert_eq!(last(&[], &line), 2, "{line}");
+    }
+    let many = " (sv A (A A A A A A A A A) (v 99))".repeat(17);
+    for (number, part) in [(2, "(sv A () none)"), (2, "(sv A ()"), (5, "(sv A () A)")] {
+        let line = format!("(in (or (+ (mol A{many} {part}))))");
+        assert_eq!(last(&[], &line), number, "{line}");
+    }
+    for line in [
+        "(in (or (+ (mol A (sv A () A) (sv A () A)))))",
+        "(in (or (- (mol X (mv (f 3 Z) () none) (mi A (A X) none) (mv Y (B) C)))))",
+        "(in (or (+ (mol A (st A () none) (mt A (A) none))) (- (mol A (si B () C) (sv B () C)))))",
+    ] {
+        assert_eq!(last(&[], line), 0, "{line}");
+    }
+}
+
+#[test]
 fn check_2_steps() {
     for line in [
         "(by)",
@@ -166,7 +252,9 @@ fn check_2_steps() {
         "(by ref 0 0 0 0 0 (let X) (let) (or (+ (sub X X))))",
         "(by reflx 0 0 0 0 0 (let X) (let) (or (+ (sub X X))))",
         "(by REFL 0 0 0 0 0 (let X) (let) (or (+ (sub X X))))",
-        "(by mer 0 0 0 0 0 (let X) (let) (or (+ (sub X X))))",
+        "(by mol 0 0 0 0 0 (let X) (let) (or (+ (sub X X))))",
+        "(by me 0 0 0 0 0 (let X) (let) (or (+ (sub X X))))",
+        "(by pros 0 0 0 0 0 (let X) (let) (or (+ (sub X X))))",
         "(by 0 0 0 0 0 (let X) (let) (or (+ (sub X X))))",
     ] {
         assert_eq!(last(&[], line), 2, "{line}");
@@ -220,6 +308,35 @@ fn check_5_clauses() {
             assert_eq!(last(&[], &line), number);
         }
     }
+    // In each part, whatever the others have.
+    for part in 0..3 {
+        for (count, number) in [(8, 0), (9, 5), (400, 5)] {
+            let mut counts = [0, 8, 1];
+            counts[part] = count;
+            let parts = counts.map(|count| format!(" (mv A ({}) none)", arguments(count)));
+            let line = format!("(in (or (+ (mol A{}))))", parts.concat());
+            assert_eq!(last(&[], &line), number);
+        }
+    }
+    for (count, number) in [
+        (1, 2),
+        (2, 0),
+        (15, 0),
+        (16, 0),
+        (17, 5),
+        (18, 5),
+        (1_000, 5),
+    ] {
+        for part in ["(sv A () A)", "(mt B (A X) none)"] {
+            let parts = format!(" {part}").repeat(count);
+            let line = format!("(in (or (- (obj A)) (+ (mol A{parts}))))");
+            assert_eq!(last(&[], &line), number, "{line}");
+        }
+    }
+    // The parts of two molecules aren't counted together.
+    let parts = " (sv A () A)".repeat(16);
+    let line = format!("(in (or{}))", format!(" (+ (mol A{parts}))").repeat(32));
+    assert_eq!(last(&[], &line), 0);
     for (count, number) in [(32, 0), (33, 5), (1_000, 5)] {
         let line = format!("(in (or{}))", " (+ (obj A))".repeat(count));
         assert_eq!(last(&[], &line), number);
@@ -230,6 +347,9 @@ fn check_5_clauses() {
             "(eq A (f 3 V))",
             "(mv A A (A V) none)",
             "(sv A A () V)",
+            "(mol V (sv A () A) (sv A () A))",
+            "(mol A (sv A () A) (sv A () V))",
+            "(mol A (mv A (V) none) (sv A () A))",
         ] {
             let place = place.replace('V', &format!("(v {variable})"));
             let line = format!("(in (or (- (obj A)) (+ {place})))");
@@ -289,7 +409,15 @@ fn check_6_symbols() {
         (6, "(f 3 A A A A A A A A A)"),
         (6, "(f 3 (f 3 (f 3)))"),
     ] {
-        for place in ["(obj T)", "(sub A T)", "(mi A A (T) none)", "(st T A () A)"] {
+        for place in [
+            "(obj T)",
+            "(sub A T)",
+            "(mi A A (T) none)",
+            "(st T A () A)",
+            "(mol T (sv A () A) (sv A () A))",
+            "(mol A (sv T () A) (sv A () A))",
+            "(mol A (sv A () A) (mv A (A T) none))",
+        ] {
             let line = format!("(in (or (- {})))", place.replace('T', term));
             assert_eq!(last(&[], &line), number, "{line}");
         }
@@ -325,6 +453,11 @@ fn checks_7_and_8_in_order() {
             (8, "(by eli 0 0 0 1 0 (let A) (let) (or))"),
             (8, "(by eli 0 0 0 0 1 (let A) (let) (or))"),
             (8, "(by eli 0 0 0 0 0 (let A) (let A) (or))"),
+            (8, "(by pro 0 0 1 0 0 (let A) (let) (or))"),
+            (8, "(by pro 0 0 0 1 0 (let A) (let) (or))"),
+            (9, "(by pro 0 0 0 0 1 (let A) (let) (or))"),
+            (8, "(by mer 0 0 1 0 1 (let A) (let C A) (or))"),
+            (9, "(by mer 0 0 1 0 0 (let A) (let C A) (or))"),
             (8, "(by eli 0 9 0 0 1 (let A) (let) (or))"),
             (0, "(by eli 0 0 0 0 0 (let A) (let) (or))"),
         ],

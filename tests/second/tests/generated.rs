@@ -1,7 +1,7 @@
 //! The generator, and the checker over what it makes.
 
 use std::collections::{BTreeMap, BTreeSet};
-use std::sync::mpsc;
+use std::sync::{mpsc, OnceLock};
 use std::thread;
 use std::time::Duration;
 
@@ -10,7 +10,7 @@ use second::generate::model::{uses_first, Term, RULES};
 use second::generate::pairs::parents;
 use second::generate::random::Random;
 use second::generate::unify::Unifier;
-use second::generate::{generate, sample, valid_sample, web_sample};
+use second::generate::{generate, sample, valid_sample, web_sample, Sample};
 use second::{check, Verdict, MAX_BYTES};
 
 #[test]
@@ -68,12 +68,25 @@ fn terms_that_share_parts_are_not_built() {
     });
 }
 
+/// The valid texts of the first seeds.
+fn valid_samples() -> &'static [Sample] {
+    static SAMPLES: OnceLock<Vec<Sample>> = OnceLock::new();
+    SAMPLES.get_or_init(|| (0..3_000).map(valid_sample).collect())
+}
+
+/// The lines of the valid texts that begin with this word.
+fn valid_lines(word: &str) -> impl Iterator<Item = &'static str> {
+    let start = format!("({word} ");
+    let texts = valid_samples().iter().map(|sample| &sample.text);
+    let lines = texts.flat_map(|text| std::str::from_utf8(text).unwrap().lines());
+    lines.filter(move |line| line.starts_with(&start))
+}
+
 #[test]
 fn valid_texts_get_their_answer() {
-    for seed in 0..3_000 {
-        let sample = valid_sample(seed);
+    for (seed, sample) in valid_samples().iter().enumerate() {
         assert_eq!(Some(check(&sample.text)), sample.expected, "seed {seed}");
-        let verdict = sample.expected.map(|answer| answer.verdict);
+        let verdict = sample.expected.as_ref().map(|answer| answer.verdict);
         let accepted = !matches!(verdict, Some(Verdict::Refused { .. }));
         assert!(accepted, "seed {seed}");
     }
@@ -91,17 +104,150 @@ fn gives_none(line: &str) -> bool {
 fn signatures_with_none_are_passed_often() {
     for rule in ["inh", "inp"] {
         let mut counts = [0, 0];
-        for seed in 0..3_000 {
-            let text = String::from_utf8(valid_sample(seed).text).unwrap();
-            let steps = text.lines().filter(|line| line.starts_with("(by "));
-            for line in steps.filter(|line| line[4..].starts_with(rule)) {
-                counts[usize::from(gives_none(line))] += 1;
-            }
+        for line in valid_lines("by").filter(|line| line[4..].starts_with(rule)) {
+            counts[usize::from(gives_none(line))] += 1;
         }
         let [with_term, with_none] = counts;
         assert!(with_none * 4 > with_term, "{rule}: {counts:?}");
         assert!(with_none < with_term, "{rule}: {counts:?}");
     }
+}
+
+/// The literals of a line's clause, each without its first bracket.
+fn literals(line: &str) -> Vec<String> {
+    let marked = line.replace(" (+ ", "|+ ").replace(" (- ", "|- ");
+    marked.split('|').skip(1).map(str::to_string).collect()
+}
+
+/// The kind of a literal's atom: molecule, arrow atom or other.
+fn kind(literal: &str) -> &'static str {
+    let word = literal[3..].split(' ').next().unwrap_or("");
+    match word {
+        "mol" => "molecule",
+        "sv" | "si" | "mv" | "mi" | "st" | "mt" => "arrow",
+        _ => "other",
+    }
+}
+
+/// A step: its rule, K, and the literals at I and at J, where there is one.
+type Step = (String, usize, String, String);
+
+/// The steps of the valid texts.
+fn steps() -> &'static [Step] {
+    static STEPS: OnceLock<Vec<Step>> = OnceLock::new();
+    STEPS.get_or_init(|| valid_samples().iter().flat_map(steps_of).collect())
+}
+
+fn steps_of(sample: &Sample) -> Vec<Step> {
+    let text = String::from_utf8_lossy(&sample.text);
+    let clauses: Vec<&str> = text.lines().filter(|l| !l.starts_with("(sym ")).collect();
+    let literal = |clause: usize, place: usize| {
+        let literals = literals(clauses[clause]);
+        literals.get(place).cloned().unwrap_or("- (none)".into())
+    };
+    let step = |line: &&&str| {
+        let words: Vec<&str> = line.split(' ').collect();
+        let numbers: Vec<usize> = words[2..7].iter().map(|n| n.parse().unwrap()).collect();
+        let [a, i, b, j, k] = numbers[..] else {
+            unreachable!()
+        };
+        let second = if words[1] == "fac" { a } else { b };
+        (words[1].into(), k, literal(a, i), literal(second, j))
+    };
+    let steps = clauses.iter().filter(|line| line.starts_with("(by "));
+    steps.map(|line| step(&line)).collect()
+}
+
+#[test]
+fn molecules_stand_on_either_side_of_res_and_fac() {
+    let mut counts: BTreeMap<(&str, &str, &str), usize> = BTreeMap::new();
+    for (rule, _, first, second) in steps() {
+        let key = (&rule[..], kind(first), kind(second));
+        *counts.entry(key).or_default() += 1;
+    }
+    let sides = [
+        ("molecule", "molecule"),
+        ("arrow", "molecule"),
+        ("molecule", "arrow"),
+    ];
+    for rule in ["res", "fac", "mer"] {
+        for (first, second) in sides {
+            let times = counts.get(&(rule, first, second)).unwrap_or(&0);
+            assert!(*times > 10, "{rule} with {first}, {second}: {times}");
+        }
+    }
+}
+
+/// Where occurrence K of a molecule's literal stands.
+fn place_in_molecule(literal: &str, k: usize) -> &'static str {
+    // The brackets that are open, and what stands in each.
+    let mut open: Vec<&str> = vec![""];
+    let mut terms = 0;
+    let mut behind_arguments = false;
+    for (at, byte) in literal.bytes().enumerate() {
+        let inside = open
+            .iter()
+            .take_while(|word| **word != "v" && **word != "f");
+        let place = match inside.count() {
+            2 => "object",
+            4 => "argument",
+            _ if behind_arguments => "result",
+            _ => "method",
+        };
+        match byte {
+            b'(' => {
+                let word = literal[at + 1..].split([' ', '(', ')']).next();
+                let word = word.unwrap_or("");
+                if matches!(word, "v" | "f") {
+                    if terms == k {
+                        return place;
+                    }
+                    terms += 1;
+                }
+                behind_arguments &= open.len() != 2;
+                open.push(word);
+            }
+            b')' => {
+                open.pop();
+                behind_arguments |= open.len() == 3;
+            }
+            _ => {}
+        }
+    }
+    "nowhere"
+}
+
+#[test]
+fn par_is_applied_at_each_place_of_a_molecule() {
+    let literal = "+ (mol (f 3 (v 0)) (mv (f 0) ((f 1) (f 3 (v 1))) none) (sv (f 0) () (v 0)))";
+    let places = (0..9).map(|k| place_in_molecule(literal, k));
+    let names = "object object method argument argument argument method result nowhere";
+    assert_eq!(places.collect::<Vec<_>>().join(" "), names);
+    let mut counts: BTreeMap<&str, usize> = BTreeMap::new();
+    for (rule, k, first, _) in steps() {
+        if rule == "par" && kind(first) == "molecule" {
+            *counts.entry(place_in_molecule(first, *k)).or_default() += 1;
+        }
+    }
+    for place in ["object", "method", "argument", "result"] {
+        let times = counts.get(place).unwrap_or(&0);
+        assert!(*times > 20, "{place}: {times}");
+    }
+    assert_eq!(counts.get("nowhere"), None);
+}
+
+#[test]
+fn molecules_come_with_2_to_16_parts() {
+    let mut counts = [0; 18];
+    for line in valid_lines("in") {
+        for molecule in literals(line).iter().filter(|l| kind(l) == "molecule") {
+            let words = ["sv", "si", "mv", "mi", "st", "mt"];
+            let parts = words.map(|word| molecule.matches(&format!(" ({word} ")).count());
+            counts[parts.iter().sum::<usize>().min(17)] += 1;
+        }
+    }
+    assert!(counts[2..=16].iter().all(|&times| times > 3), "{counts:?}");
+    assert_eq!((counts[0], counts[1], counts[17]), (0, 0, 0));
 }
 
 /// How many clauses of a refuted text are reached from its first empty clause
@@ -206,7 +352,7 @@ fn every_verdict_and_every_rule_come_up() {
         for number in [0, 7, 8, 9, 10, 11] {
             let possible = match number {
                 7 | 9 => uses_first(rule),
-                10 => uses_first(rule) && rule != "eli",
+                10 => uses_first(rule) && !matches!(rule, "eli" | "pro"),
                 _ => true,
             };
             let times = steps.get(&(rule, number)).unwrap_or(&0);

@@ -110,7 +110,9 @@ fn take_line(state: &mut State, line: &Tree) -> u8 {
             "v" => within &= number(items[1].text) <= 31,
             "f" => declared &= state.arities.get(number(items[1].text)) == Some(&(parts - 1)),
             "or" | "let" => within &= parts <= 32,
-            "sv" | "si" | "mv" | "mi" | "st" | "mt" => within &= items[3].len() <= 8,
+            // The object isn't a part.
+            "mol" => within &= parts <= 17,
+            word if is_arrow(word) => within &= items[items.len() - 2].len() <= 8,
             _ => {}
         }
     });
@@ -140,7 +142,7 @@ fn take_line(state: &mut State, line: &Tree) -> u8 {
 fn parents_of(line: &Tree) -> Vec<usize> {
     let places = match line.item(1).text {
         "refl" => vec![],
-        "fac" | "eli" => vec![2],
+        "fac" | "eli" | "pro" => vec![2],
         _ => vec![2, 4],
     };
     let place = |&place: &usize| number(line.item(place).text);
@@ -158,6 +160,7 @@ fn check_step(state: &State, line: &Tree, claim: &[String]) -> u8 {
         "refl" => "",
         "fac" => "aij",
         "eli" => "ai",
+        "pro" => "aik",
         "par" | "inp" => "aibjk",
         _ => "aibj",
     };
@@ -229,6 +232,13 @@ fn conclude(
             false => Err(9),
         };
     }
+    if rule == "pro" {
+        let (object, parts) = said(x).ok_or(9)?;
+        return match plus && word == "mol" && k < parts.len() {
+            true => Ok((Some(format!("(+ {})", with_object(&parts[k], &object))), i)),
+            false => Err(9),
+        };
+    }
     let side = usize::from(rule != "fac");
     let second = fill(parents[side].get(j).ok_or(9)?, &lists[side]);
     let second = parse(&second).unwrap();
@@ -252,6 +262,7 @@ fn conclude(
         "inh" => is_signature && other_plus && other_word == "sub",
         "inp" => is_signature && k < arguments.len() && other_plus && other_word == "sub",
         "out" => is_signature && x.item(4).text != "none" && other_plus && other_word == "sub",
+        "mer" => plus && other_plus && said(x).is_some() && said(y).is_some(),
         _ => is_scalar(plus, word) && is_scalar(other_plus, other_word),
     };
     if !shape {
@@ -271,12 +282,15 @@ fn conclude(
     };
     let literal = match rule {
         "res" | "fac" => {
-            let mut emptied = y.text.to_string();
-            if matches!(other_word, "mv" | "mi" | "st" | "mt") {
-                let call: Vec<&str> = (1..4).map(|place| y.item(place).text).collect();
-                emptied = format!("({other_word} {} none)", call.join(" "));
-            }
-            if x.text != y.text && x.text != emptied {
+            let fits = match (said(x), said(y)) {
+                (Some(one), Some(other)) => {
+                    let all: BTreeSet<String> =
+                        other.1.iter().flat_map(|part| given(part)).collect();
+                    one.0 == other.0 && one.1.iter().all(|part| all.contains(part))
+                }
+                _ => x.text == y.text,
+            };
+            if !fits {
                 return Err(10);
             }
             let dropped = if rule == "fac" && plus { j } else { i };
@@ -288,6 +302,13 @@ fn conclude(
             agree(&part(&raw_first[start..end]), y.item(1).text)?;
             let (before, after) = (part(&raw_first[..start]), part(&raw_first[end..]));
             Some(format!("{before}{}{after}", y.item(2).text))
+        }
+        "mer" => {
+            let (object, mut parts) = said(x).unwrap();
+            let (other_object, other_parts) = said(y).unwrap();
+            agree(&object, &other_object)?;
+            parts.extend(other_parts);
+            Some(format!("(+ (mol {object} {}))", parts.join(" ")))
         }
         "acy" => {
             agree(x.item(1).text, y.item(2).text)?;
@@ -324,6 +345,42 @@ fn conclude(
         }
     };
     Ok((literal, i))
+}
+
+/// The object of an arrow atom or a molecule, and its parts.
+fn said(atom: &Tree) -> Option<(String, Vec<String>)> {
+    let word = atom.item(0).text;
+    let object = || atom.item(1).text.to_string();
+    match word {
+        "mol" => Some((object(), atom.texts(2))),
+        _ if is_arrow(word) => {
+            let part = format!("({word} {})", atom.texts(2).join(" "));
+            Some((object(), vec![part]))
+        }
+        _ => None,
+    }
+}
+
+/// The arrow atom of a part and an object.
+fn with_object(part: &str, object: &str) -> String {
+    part.replacen(' ', &format!(" {object} "), 1)
+}
+
+/// A part, and where its result is no scalar value the same with none.
+fn given(part: &str) -> Vec<String> {
+    let tree = parse(part).unwrap();
+    let [word, method, arguments, _] = &tree.texts(0)[..] else {
+        unreachable!()
+    };
+    let mut all = vec![part.to_string()];
+    if !matches!(word.as_str(), "sv" | "si") {
+        all.push(format!("({word} {method} {arguments} none)"));
+    }
+    all
+}
+
+fn is_arrow(word: &str) -> bool {
+    matches!(word, "sv" | "si" | "mv" | "mi" | "st" | "mt")
 }
 
 /// The text with the list's terms in place of variables.
@@ -463,16 +520,31 @@ fn is_atom(tree: &Tree) -> bool {
     match (word.text, terms) {
         ("obj", [t]) => term(t),
         ("eq" | "mem" | "sub", [t, u]) => term(t) && term(u),
-        ("sv" | "si" | "mv" | "mi" | "st" | "mt", [o, m, arguments, r]) => {
-            let none = is_word(r, "none") && word.text != "sv" && word.text != "si";
-            let arguments = arguments.items.as_deref();
-            term(o)
-                && term(m)
-                && arguments.is_some_and(|arguments| arguments.iter().all(term))
-                && (none || term(r))
-        }
+        ("mol", [o, parts @ ..]) => term(o) && parts.len() > 1 && parts.iter().all(is_part),
+        (arrow, [o, rest @ ..]) => term(o) && is_said(arrow, rest),
         _ => false,
     }
+}
+
+fn is_part(tree: &Tree) -> bool {
+    match tree.items.as_deref() {
+        Some([word, rest @ ..]) => word.items.is_none() && is_said(word.text, rest),
+        _ => false,
+    }
+}
+
+/// Whether these are a method, arguments and a result that the arrow may have.
+fn is_said(arrow: &str, rest: &[Tree]) -> bool {
+    let term = |tree| is_term(tree, 16);
+    let [method, arguments, result] = rest else {
+        return false;
+    };
+    let arguments = arguments.items.as_deref();
+    let none = is_word(result, "none") && !matches!(arrow, "sv" | "si");
+    is_arrow(arrow)
+        && term(method)
+        && arguments.is_some_and(|arguments| arguments.iter().all(term))
+        && (none || term(result))
 }
 
 fn is_literal(tree: &Tree) -> bool {
@@ -490,7 +562,7 @@ fn is_row(tree: &Tree, word: &str, is_item: impl Fn(&Tree) -> bool) -> bool {
 }
 
 fn is_line(tree: &Tree) -> bool {
-    let rules = "refl res fac par acy tra inc inh inp out sca eli";
+    let rules = "refl res fac par acy tra inc inh inp out sca eli mer pro";
     let clause = |tree| is_row(tree, "or", is_literal);
     let list = |tree| is_row(tree, "let", |term| is_term(term, 16));
     match tree.items.as_deref() {

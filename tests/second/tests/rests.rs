@@ -45,7 +45,7 @@ fn an_empty_input_rests_on_itself_alone() {
 
 /// For each rule inputs from 1 on and steps that end in the empty clause. Clause
 /// 0 is an input that no step uses, and the unused numbers of a step name it.
-const RULES: [(&str, &[&str], &str); 14] = [
+const RULES: [(&str, &[&str], &str); 16] = [
     (
         "refl",
         &[
@@ -191,6 +191,27 @@ const RULES: [(&str, &[&str], &str); 14] = [
             "(by eli 1 0 0 0 0 (let) (let) (or))",
         ],
         "rests 1",
+    ),
+    (
+        "mer",
+        &[
+            "(in (or (- (mol A (sv B () C) (mv C (B) none)))))",
+            "(in (or (+ (mv A C (B) B))))",
+            "(in (or (+ (sv A B () C))))",
+            "(by mer 2 0 3 0 0 (let) (let) (or (+ (mol A (mv C (B) B) (sv B () C)))))",
+            "(by res 1 0 4 0 0 (let) (let) (or))",
+        ],
+        "rests 1 2 3",
+    ),
+    (
+        "pro",
+        &[
+            "(in (or (- (mv A C () none))))",
+            "(in (or (+ (mol A (sv B () C) (mv C () C)))))",
+            "(by pro 2 0 0 0 1 (let) (let) (or (+ (mv A C () C))))",
+            "(by res 1 0 3 0 0 (let) (let) (or))",
+        ],
+        "rests 1 2",
     ),
 ];
 

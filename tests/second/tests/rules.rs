@@ -852,3 +852,687 @@ fn claims_serve_as_parents() {
         "refuted 6 4\nrests 0 1 2"
     );
 }
+
+/// Asserts the number by which res refuses the first atom, negative, against
+/// the second, and by which fac refuses them, of either sign.
+fn fits(first: &str, second: &str, number: u8) {
+    let units = [
+        &format!("(in (or (- {first})))")[..],
+        &format!("(in (or (+ {second})))"),
+        &format!("(in (or (+ {first}) (+ {second})))"),
+        &format!("(in (or (- {first}) (- {second})))"),
+    ];
+    cases(
+        &units,
+        &[
+            (number, "(by res 0 0 1 0 0 (let) (let) (or))"),
+            (
+                number,
+                &format!("(by fac 2 0 0 1 0 (let) (let) (or (+ {first})))"),
+            ),
+            (
+                number,
+                &format!("(by fac 3 0 0 1 0 (let) (let) (or (- {second})))"),
+            ),
+        ],
+    );
+}
+
+/// The molecule of object A and these parts, or the arrow atom of one part.
+fn of_a(parts: &[&str]) -> String {
+    match parts {
+        [part] => part.replacen(' ', " A ", 1),
+        _ => format!("(mol A {})", parts.join(" ")),
+    }
+}
+
+#[test]
+fn molecules_fit_into_molecules() {
+    let (p, q, r) = ("(sv B () C)", "(mv B (C) A)", "(st C (A B) none)");
+    let q_none = "(mv B (C) none)";
+    let rows: &[(&[&str], &[&str], u8)] = &[
+        (&[p, q], &[p, q], 0),
+        // The part that covers stands at another place, or covers two.
+        (&[p, q], &[q, p], 0),
+        (&[p, q], &[r, q, p], 0),
+        (&[p, p], &[q, p], 0),
+        (&[q, p, q, p], &[p, q], 0),
+        (&[p, q], &[p, r], 10),
+        (&[q, p], &[p, r], 10),
+        (&[p, q, r], &[p, q], 10),
+        (&[r, p, q], &[p, q], 10),
+        (&[p, q], &[p, p], 10),
+        // A term covers none, wherever it is, but none covers no term.
+        (&[p, q_none], &[p, q], 0),
+        (&[q_none, p], &[p, q], 0),
+        (&[q, q_none], &[p, q], 0),
+        (&[p, q], &[p, q_none], 10),
+        (&[q, p], &[p, q_none], 10),
+        (&[p, q], &[q_none, p, q], 0),
+        (&[q_none, p], &[q_none, p], 0),
+        // Arrow atoms as molecules of one part.
+        (&[p], &[p, q], 0),
+        (&[q], &[p, q], 0),
+        (&[q_none], &[p, q], 0),
+        (&[q], &[p, q_none], 10),
+        (&[r], &[p, q], 10),
+        (&[p, p], &[p], 0),
+        (&[p, q], &[p], 10),
+        (&[p, q], &[q], 10),
+        (&[q_none, q], &[q], 0),
+        (&[q, q_none], &[q_none], 10),
+        (&[p], &[p], 0),
+        (&[p], &[q], 10),
+    ];
+    for (first, second, number) in rows {
+        let (first, second) = (of_a(first), of_a(second));
+        fits(&first, &second, *number);
+        // The objects differ.
+        fits(&first.replacen(" A ", " B ", 1), &second, 10);
+        fits(&first, &second.replacen(" A ", " B ", 1), 10);
+    }
+}
+
+#[test]
+fn a_part_that_differs_in_one_place_covers_nothing() {
+    let part = "(mt A (B C) A)";
+    for other in [
+        "(st A (B C) A)",
+        "(mv A (B C) A)",
+        "(mi A (B C) A)",
+        "(sv A (B C) A)",
+        "(mt B (B C) A)",
+        "(mt A (C C) A)",
+        "(mt A (B B) A)",
+        "(mt A (C B) A)",
+        "(mt A (B) A)",
+        "(mt A (B C A) A)",
+        "(mt A (B C A) none)",
+        "(mt A (B) C)",
+        "(mt A () A)",
+        "(mt A (B C) B)",
+    ] {
+        for (first, second) in [(part, other), (other, part)] {
+            fits(
+                &of_a(&["(sv A () A)", first]),
+                &of_a(&["(sv A () A)", second]),
+                10,
+            );
+            fits(&of_a(&[first]), &of_a(&["(sv A () A)", second]), 10);
+            fits(&of_a(&["(sv A () A)", first]), &of_a(&[second]), 10);
+        }
+    }
+    // Each part of X has one of Y: halves of two don't cover it.
+    fits(
+        &of_a(&["(sv A () A)", "(mv A (B) C)"]),
+        &of_a(&["(sv A () A)", "(mv A (B) A)", "(mv A (C) C)"]),
+        10,
+    );
+    // A bracket's end counts: the same terms, cut otherwise.
+    fits(
+        &of_a(&["(mv A (B) C)", "(mv A () none)"]),
+        &of_a(&["(mv A () none)", "(mv A () B)", "(mv C () none)"]),
+        10,
+    );
+}
+
+#[test]
+fn a_molecule_fits_into_no_other_atom() {
+    let molecule = "(mol A (sv B () C) (mv B (C) none))";
+    for other in ["(eq A B)", "(mem A B)", "(sub A B)", "(obj A)"] {
+        fits(molecule, other, 10);
+        fits(other, molecule, 10);
+    }
+    // Only the atoms are compared; the signs are the rule's shape.
+    cases(
+        &[&format!("(in (or (+ {molecule}) (- {molecule})))")],
+        &[
+            (
+                0,
+                &format!("(by res 0 1 0 0 0 (let) (let) (or (+ {molecule}) (- {molecule})))"),
+            ),
+            (9, "(by res 0 0 0 0 0 (let) (let) (or))"),
+            (9, "(by res 0 1 0 1 0 (let) (let) (or))"),
+            (9, "(by res 0 0 0 1 0 (let) (let) (or))"),
+            (9, "(by fac 0 0 0 1 0 (let) (let) (or))"),
+            (9, "(by fac 0 1 0 0 0 (let) (let) (or))"),
+            (9, "(by fac 0 0 0 0 0 (let) (let) (or))"),
+        ],
+    );
+}
+
+#[test]
+fn sixteen_parts_fit_into_one_another() {
+    let part = |n: usize| {
+        format!(
+            "(mv A ({}) {})",
+            "B ".repeat(n % 8) + "C",
+            ["A", "C"][n / 8]
+        )
+    };
+    let all: Vec<String> = (0..16).map(part).collect();
+    let all: Vec<&str> = all.iter().map(String::as_str).collect();
+    let turned: Vec<&str> = all.iter().rev().copied().collect();
+    fits(&of_a(&all), &of_a(&turned), 0);
+    fits(&of_a(&turned), &of_a(&all), 0);
+    for part in &all {
+        let many = [*part; 16];
+        fits(&of_a(&[part]), &of_a(&turned), 0);
+        fits(&of_a(&many), &of_a(&turned), 0);
+        fits(&of_a(&many), &of_a(&[part]), 0);
+        fits(&of_a(&all), &of_a(&many), 10);
+        let others: Vec<&str> = all.iter().filter(|other| *other != part).copied().collect();
+        fits(&of_a(&all), &of_a(&others), 10);
+        fits(&of_a(&others), &of_a(&all), 0);
+    }
+}
+
+#[test]
+fn molecules_fit_once_filled() {
+    let inputs = [
+        "(in (or (- (mol X (sv Y () Z) (mv B (X) none))) (+ (obj Y))))",
+        "(in (or (+ (mol (f 3 X) (mv B (Y) (f 3 Y)) (mv A () A) (sv A () X)))))",
+        "(in (or (- (mol A (sv B () C) (mv B (C) none)))))",
+        "(in (or (+ (mol X (mv Y (Z) X) (sv B () C)))))",
+    ];
+    let f = |terms: &str| terms.replace('T', "(f 3 A)");
+    cases(
+        &inputs,
+        &[
+            (
+                0,
+                &f("(by res 0 0 1 0 0 (let T A A) (let A T) (or (+ (obj A))))"),
+            ),
+            (
+                10,
+                &f("(by res 0 0 1 0 0 (let A A A) (let A T) (or (+ (obj A))))"),
+            ),
+            (
+                10,
+                &f("(by res 0 0 1 0 0 (let T B A) (let A T) (or (+ (obj B))))"),
+            ),
+            (
+                10,
+                &f("(by res 0 0 1 0 0 (let T A B) (let A T) (or (+ (obj A))))"),
+            ),
+            (
+                10,
+                &f("(by res 0 0 1 0 0 (let T A A) (let B T) (or (+ (obj A))))"),
+            ),
+            (
+                10,
+                &f("(by res 0 0 1 0 0 (let T A A) (let A A) (or (+ (obj A))))"),
+            ),
+            (
+                11,
+                &f("(by res 0 0 1 0 0 (let T A A) (let A T) (or (+ (obj Y))))"),
+            ),
+            // Variables on one side only.
+            (0, "(by res 2 0 3 0 0 (let) (let A B C) (or))"),
+            (10, "(by res 2 0 3 0 0 (let) (let B B C) (or))"),
+            (10, "(by res 2 0 3 0 0 (let) (let A C C) (or))"),
+            (10, "(by res 2 0 3 0 0 (let) (let A B B) (or))"),
+        ],
+    );
+    // fac has one list for both; which of the two goes is by the sign alone.
+    let (one, two) = (
+        "(mol X (mv B (Y) none) (sv X () Y))",
+        "(mol A (sv A () X) (mv B (A) C))",
+    );
+    let filled = "(mol A (mv B (A) none) (sv A () A))";
+    let two_filled = "(mol A (sv A () A) (mv B (A) C))";
+    cases(
+        &[
+            &format!("(in (or (+ {one}) (- (obj Y)) (+ {two})))"),
+            &format!("(in (or (- {one}) (+ (obj Y)) (- {two})))"),
+        ],
+        &[
+            (
+                0,
+                &format!("(by fac 0 0 0 2 0 (let A A) (let) (or (+ {filled}) (- (obj A))))"),
+            ),
+            (
+                11,
+                &format!("(by fac 0 0 0 2 0 (let A A) (let) (or (- (obj A)) (+ {two_filled})))"),
+            ),
+            (
+                10,
+                &format!("(by fac 0 2 0 0 0 (let A A) (let) (or (- (obj A)) (+ {two_filled})))"),
+            ),
+            (
+                10,
+                &format!("(by fac 0 0 0 2 0 (let A B) (let) (or (+ {filled}) (- (obj B))))"),
+            ),
+            (
+                0,
+                &format!("(by fac 1 0 0 2 0 (let A A) (let) (or (+ (obj A)) (- {two_filled})))"),
+            ),
+            (
+                11,
+                &format!("(by fac 1 0 0 2 0 (let A A) (let) (or (- {filled}) (+ (obj A))))"),
+            ),
+            (
+                10,
+                &format!("(by fac 1 2 0 0 0 (let A A) (let) (or (- {filled}) (+ (obj A))))"),
+            ),
+        ],
+    );
+}
+
+#[test]
+fn par_counts_through_a_molecule() {
+    // 0 (f 3 X), 1 X, 2 B, 3 A, 4 (f 4 C X), 5 C, 6 X, 7 Y, 8 A, 9 A, 10 X
+    let molecule = "(mol (f 3 X) (mv B (A (f 4 C X)) none) (si Y () A) (st A (X) none))";
+    let equality = "(in (or (+ (eq X (f 3 C))) (+ (obj X))))";
+    let filled = |new: &str| new.replace('X', "B").replace('Y', "A");
+    let terms = [
+        "(f 3 B)",
+        "B",
+        "B",
+        "A",
+        "(f 4 C B)",
+        "C",
+        "B",
+        "A",
+        "A",
+        "A",
+        "B",
+    ];
+    let news = [
+        "(mol D (mv B (A (f 4 C X)) none) (si Y () A) (st A (X) none))",
+        "(mol (f 3 D) (mv B (A (f 4 C X)) none) (si Y () A) (st A (X) none))",
+        "(mol (f 3 X) (mv D (A (f 4 C X)) none) (si Y () A) (st A (X) none))",
+        "(mol (f 3 X) (mv B (D (f 4 C X)) none) (si Y () A) (st A (X) none))",
+        "(mol (f 3 X) (mv B (A D) none) (si Y () A) (st A (X) none))",
+        "(mol (f 3 X) (mv B (A (f 4 D X)) none) (si Y () A) (st A (X) none))",
+        "(mol (f 3 X) (mv B (A (f 4 C D)) none) (si Y () A) (st A (X) none))",
+        "(mol (f 3 X) (mv B (A (f 4 C X)) none) (si D () A) (st A (X) none))",
+        "(mol (f 3 X) (mv B (A (f 4 C X)) none) (si Y () D) (st A (X) none))",
+        "(mol (f 3 X) (mv B (A (f 4 C X)) none) (si Y () A) (st D (X) none))",
+        "(mol (f 3 X) (mv B (A (f 4 C X)) none) (si Y () A) (st A (D) none))",
+    ];
+    for sign in ["+", "-"] {
+        let input = format!("(in (or (- (obj Y)) ({sign} {molecule})))");
+        let step = |k: usize, term: &str, new: &str| {
+            let new = filled(new).replace('D', "(f 3 C)");
+            format!(
+                "(by par 0 1 1 0 {k} (let B A) (let {term}) (or ({sign} {new}) (- (obj A)) (+ (obj {term}))))"
+            )
+        };
+        let inputs = [&input[..], equality];
+        for (k, (term, new)) in terms.iter().zip(news).enumerate() {
+            cases(&inputs, &[(0, &step(k, term, new))]);
+            for (other, wrong) in terms.iter().zip(news) {
+                // A number that names another occurrence.
+                if wrong != new {
+                    cases(&inputs, &[(11, &step(k, term, wrong))]);
+                }
+                if other != term {
+                    cases(&inputs, &[(10, &step(k, other, new))]);
+                }
+            }
+        }
+        cases(
+            &inputs,
+            &[
+                (9, &step(11, "B", news[10])),
+                (9, &step(65_535, "B", news[10])),
+                (11, &step(10, "B", &news[10].replacen("none", "A", 1))),
+            ],
+        );
+    }
+    // The object stands once, and is replaced for all atoms at once.
+    let inputs = [
+        "(in (or (+ (mol A (sv A () A) (sv A () A)))))",
+        "(in (or (+ (eq A B))))",
+    ];
+    let step = |k: usize, new: &str| format!("(by par 0 0 1 0 {k} (let) (let) (or (+ {new})))");
+    cases(
+        &inputs,
+        &[
+            (0, &step(0, "(mol B (sv A () A) (sv A () A))")),
+            (0, &step(1, "(mol A (sv B () A) (sv A () A))")),
+            (0, &step(2, "(mol A (sv A () B) (sv A () A))")),
+            (0, &step(3, "(mol A (sv A () A) (sv B () A))")),
+            (0, &step(4, "(mol A (sv A () A) (sv A () B))")),
+            (9, &step(5, "(mol A (sv A () A) (sv A () B))")),
+            (11, &step(3, "(mol B (sv A () A) (sv A () A))")),
+            (11, &step(0, "(mol B (sv B () B) (sv B () B))")),
+        ],
+    );
+    // The equality can't be a molecule.
+    cases(&inputs, &[(9, "(by par 1 0 0 0 0 (let) (let) (or))")]);
+}
+
+#[test]
+fn other_rules_refuse_a_molecule() {
+    for (first, second) in [("st", "mt"), ("sv", "sv"), ("sv", "si"), ("mv", "mi")] {
+        let molecule = format!("(mol A ({first} A (A) A) ({second} A (A) A))");
+        let inputs = [
+            &format!("(in (or (+ {molecule})))")[..],
+            &format!("(in (or (- {molecule})))"),
+            "(in (or (+ (sub A A))))",
+            "(in (or (+ (mem A A))))",
+            "(in (or (+ (st A A (A) A))))",
+            "(in (or (+ (sv A A (A) A))))",
+            "(in (or (+ (eq A A))))",
+        ];
+        let rules = [
+            ("acy", 2, 2, "(+ (eq A A))"),
+            ("tra", 2, 2, "(+ (sub A A))"),
+            ("inc", 3, 2, "(+ (mem A A))"),
+            ("inh", 4, 2, "(+ (st A A (A) A))"),
+            ("inp", 4, 2, "(+ (st A A (A) A))"),
+            ("out", 4, 2, "(+ (st A A (A) A))"),
+            ("sca", 5, 5, "(+ (eq A A))"),
+            ("par", 6, 6, "(+ (eq A A))"),
+        ];
+        for (rule, a, b, claim) in rules {
+            let step =
+                |a: usize, b: usize| format!("(by {rule} {a} 0 {b} 0 0 (let) (let) (or {claim}))");
+            cases(
+                &inputs,
+                &[(0, &step(a, b)), (9, &step(a, 0)), (9, &step(a, 1))],
+            );
+            if rule != "par" {
+                cases(
+                    &inputs,
+                    &[(9, &step(0, b)), (9, &step(1, b)), (9, &step(0, 0))],
+                );
+            }
+        }
+        for number in [0, 1] {
+            let step = format!("(by eli {number} 0 0 0 0 (let) (let) (or))");
+            cases(&inputs, &[(9, &step)]);
+        }
+    }
+}
+
+#[test]
+fn mer() {
+    let inputs = [
+        "(in (or (- (obj Y)) (+ (mol X (mv B (Y) none) (sv A () X))) (- (sv A B () C))))",
+        "(in (or (+ (si (f 3 Y) B () X)) (+ (mem Y X)) (- (mol Y (sv A () A) (sv A () A)))))",
+    ];
+    let rest = "(- (obj C)) (- (sv A B () C)) (+ (mem A B)) (- (mol A (sv A () A) (sv A () A)))";
+    let new = "(mol D (mv B (C) none) (sv A () D) (si B () B))";
+    let filled = |text: &str| text.replace('D', "(f 3 A)");
+    let step = |start: &str| filled(&format!("(by mer {start} (or (+ {new}) {rest}))"));
+    cases(
+        &inputs,
+        &[
+            (0, &step("0 1 1 0 0 (let D C) (let B A)")),
+            (7, &step("2 1 1 0 0 (let D C) (let B A)")),
+            (7, &step("0 1 2 0 0 (let D C) (let B A)")),
+            (8, &step("0 1 1 0 1 (let D C) (let B A)")),
+            (8, &step("0 1 1 0 0 (let D) (let B A)")),
+            (8, &step("0 1 1 0 0 (let D C C) (let B A)")),
+            (8, &step("0 1 1 0 0 (let D C) (let B)")),
+            (8, &step("0 1 1 0 0 (let D C) (let B A A)")),
+            (9, &step("0 0 1 0 0 (let D C) (let B A)")),
+            (9, &step("0 2 1 0 0 (let D C) (let B A)")),
+            (9, &step("0 3 1 0 0 (let D C) (let B A)")),
+            (9, &step("0 1 1 1 0 (let D C) (let B A)")),
+            (9, &step("0 1 1 2 0 (let D C) (let B A)")),
+            (9, &step("0 1 1 3 0 (let D C) (let B A)")),
+            (9, &step("1 1 0 1 0 (let B A) (let D C)")),
+            (10, &step("0 1 1 0 0 (let A C) (let B A)")),
+            (10, &step("0 1 1 0 0 (let D C) (let B B)")),
+            (11, &step("0 1 1 0 0 (let D A) (let B A)")),
+            (11, &step("0 1 1 0 0 (let D C) (let A A)")),
+            // The parents' order is that of the parts.
+            (11, &step("1 0 0 1 0 (let B A) (let D C)")),
+        ],
+    );
+    let claim = |text: &str| {
+        filled(&format!(
+            "(by mer 0 1 1 0 0 (let D C) (let B A) (or {text}))"
+        ))
+    };
+    let other = |new: &str| claim(&format!("(+ {new}) {rest}"));
+    cases(
+        &inputs,
+        &[
+            (0, &other(new)),
+            (
+                11,
+                &other("(mol D (si B () B) (mv B (C) none) (sv A () D))"),
+            ),
+            (
+                11,
+                &other("(mol D (sv A () D) (mv B (C) none) (si B () B))"),
+            ),
+            (11, &other("(mol D (mv B (C) none) (sv A () D))")),
+            (11, &other("(mol D (mv B (C) none) (si B () B))")),
+            (
+                11,
+                &other("(mol D (mv B (C) none) (sv A () D) (si B () B) (si B () B))"),
+            ),
+            (
+                11,
+                &other("(mol A (mv B (C) none) (sv A () D) (si B () B))"),
+            ),
+            (11, &other("(mol D (mv B (C) C) (sv A () D) (si B () B))")),
+            (11, &other("(mol D (mv B () none) (sv A () D) (si B () B))")),
+            (
+                11,
+                &other("(mol D (mi B (C) none) (sv A () D) (si B () B))"),
+            ),
+            (
+                11,
+                &other("(mol D (mv B (C) none) (sv A () D) (sv B () B))"),
+            ),
+            (11, &other("(si D B () B)")),
+            (11, &claim(&format!("(- {new}) {rest}"))),
+            (11, &claim(&format!("{rest} (+ {new})"))),
+            (11, &claim(rest)),
+            (11, &claim(&format!("(+ {new})"))),
+        ],
+    );
+}
+
+#[test]
+fn mer_of_arrow_atoms_and_molecules() {
+    let sides: [&[&str]; 4] = [
+        &["(sv B () C)"],
+        &["(mt C (A) none)"],
+        &["(sv B () C)", "(mv A (B C) none)"],
+        &["(si A () B)", "(si A () B)", "(mi B () A)"],
+    ];
+    for first in sides {
+        for second in sides {
+            let inputs = [
+                &format!("(in (or (+ {}) (- {})))", of_a(first), of_a(first))[..],
+                &format!("(in (or (+ {}) (- {})))", of_a(second), of_a(second)),
+            ];
+            let new = of_a(&[first, second].concat());
+            let rest = format!("(- {}) (- {})", of_a(first), of_a(second));
+            let step =
+                |start: &str| format!("(by mer {start} 0 (let) (let) (or (+ {new}) {rest}))");
+            cases(
+                &inputs,
+                &[
+                    (0, &step("0 0 1 0")),
+                    (9, &step("0 1 1 0")),
+                    (9, &step("0 0 1 1")),
+                    (9, &step("0 1 1 1")),
+                ],
+            );
+        }
+    }
+    // A clause with itself, both times at the same position.
+    cases(
+        &["(in (or (+ (sv X B () Y)) (- (obj Y))))", "(in (or (+ (obj A)) (+ (eq A A))))"],
+        &[
+            (
+                0,
+                "(by mer 0 0 0 0 0 (let A B) (let A C) (or (+ (mol A (sv B () B) (sv B () C))) (- (obj B)) (- (obj C))))",
+            ),
+            (
+                10,
+                "(by mer 0 0 0 0 0 (let A B) (let B C) (or (+ (mol A (sv B () B) (sv B () C))) (- (obj B)) (- (obj C))))",
+            ),
+            (9, "(by mer 0 0 1 0 0 (let A B) (let) (or))"),
+            (9, "(by mer 1 0 0 0 0 (let) (let A B) (or))"),
+            (9, "(by mer 1 1 0 0 0 (let) (let A B) (or))"),
+        ],
+    );
+}
+
+#[test]
+fn mer_to_sixteen_parts_and_more() {
+    for (first, second) in [
+        (8, 8),
+        (15, 1),
+        (1, 15),
+        (14, 2),
+        (8, 9),
+        (16, 1),
+        (1, 16),
+        (16, 16),
+    ] {
+        let parts = |count: usize, part: &'static str| vec![part; count];
+        let (one, other) = (
+            parts(first, "(sv B () C)"),
+            parts(second, "(mv C (A) none)"),
+        );
+        let all = [&one[..], &other[..]].concat();
+        let inputs = [
+            &format!("(in (or (+ {})))", of_a(&one))[..],
+            &format!("(in (or (+ {})))", of_a(&other)),
+        ];
+        let step =
+            |parts: &[&str]| format!("(by mer 0 0 1 0 0 (let) (let) (or (+ {})))", of_a(parts));
+        let number = if first + second <= 16 { 0 } else { 5 };
+        cases(
+            &inputs,
+            &[
+                (number, &step(&all)),
+                (11, &step(&all[..16.min(all.len() - 1)])),
+            ],
+        );
+        cases(&inputs, &[(11, "(by mer 0 0 1 0 0 (let) (let) (or))")]);
+    }
+}
+
+#[test]
+fn pro() {
+    let inputs = [
+        "(in (or (- (obj Y)) (+ (mol X (mv B (Y) none) (sv A () (f 3 X)) (st X (A Y) B))) (+ (sv A A () A))))",
+        "(in (or (- (mol A (sv A () A) (sv A () A))) (+ (mem A A))))",
+    ];
+    let news = [
+        "(mv C B (A) none)",
+        "(sv C A () (f 3 C))",
+        "(st C C (A A) B)",
+    ];
+    let rest = "(- (obj A)) (+ (sv A A () A))";
+    let step = |start: &str, new: &str| format!("(by pro {start} (or (+ {new}) {rest}))");
+    for (k, new) in news.iter().enumerate() {
+        let by = |start: &str| step(&start.replace('K', &k.to_string()), new);
+        cases(
+            &inputs,
+            &[
+                (0, &by("0 1 0 0 K (let C A) (let)")),
+                (7, &by("2 1 0 0 K (let C A) (let)")),
+                (8, &by("0 1 1 0 K (let C A) (let)")),
+                (8, &by("0 1 0 1 K (let C A) (let)")),
+                (8, &by("0 1 0 0 K (let C) (let)")),
+                (8, &by("0 1 0 0 K (let C A A) (let)")),
+                (8, &by("0 1 0 0 K (let C A) (let A)")),
+                (9, &by("0 0 0 0 K (let C A) (let)")),
+                (9, &by("0 2 0 0 K (let C A) (let)")),
+                (9, &by("0 3 0 0 K (let C A) (let)")),
+                (9, &by("1 0 0 0 K (let) (let)")),
+                (9, &by("1 1 0 0 K (let) (let)")),
+                (9, &by("1 2 0 0 K (let) (let)")),
+                (11, &by("0 1 0 0 K (let A A) (let)")),
+                (11, &by("0 1 0 0 K (let C B) (let)")),
+            ],
+        );
+        for (other, wrong) in news.iter().enumerate() {
+            if other != k {
+                cases(
+                    &inputs,
+                    &[(11, &step(&format!("0 1 0 0 {k} (let C A) (let)"), wrong))],
+                );
+            }
+        }
+    }
+    let claim = |claim: &str| format!("(by pro 0 1 0 0 0 (let C A) (let) (or {claim}))");
+    cases(
+        &inputs,
+        &[
+            (9, &step("0 1 0 0 3 (let C A) (let)", news[2])),
+            (9, &step("0 1 0 0 65535 (let C A) (let)", news[2])),
+            (0, &claim(&format!("(+ {}) {rest}", news[0]))),
+            (11, &claim(&format!("(- {}) {rest}", news[0]))),
+            (11, &claim(&format!("{rest} (+ {})", news[0]))),
+            (11, &claim(&format!("(+ (mv C B (A) A)) {rest}"))),
+            (11, &claim(&format!("(+ (mv C B () none)) {rest}"))),
+            (11, &claim(&format!("(+ (mi C B (A) none)) {rest}"))),
+            (11, &claim(&format!("(+ (mv A B (A) none)) {rest}"))),
+            (
+                11,
+                &claim(&format!(
+                    "(+ (mol C (mv B (A) none) (mv B (A) none))) {rest}"
+                )),
+            ),
+            (
+                11,
+                &claim(&format!(
+                    "(+ (mol C (mv B (A) none) (sv A () (f 3 C)) (st C (A A) B))) {rest}"
+                )),
+            ),
+            (11, &claim(rest)),
+            (11, &claim(&format!("(+ {})", news[0]))),
+        ],
+    );
+}
+
+#[test]
+fn pro_of_the_first_and_the_last_of_sixteen_parts() {
+    for count in [2, 3, 15, 16] {
+        let parts: Vec<String> = (0..count)
+            .map(|n| format!("(mv A ({}) none)", vec!["B"; n % 8].join(" ")))
+            .collect();
+        let parts: Vec<&str> = parts.iter().map(String::as_str).collect();
+        let input = format!("(in (or (+ {})))", of_a(&parts));
+        for k in 0..count + 2 {
+            let part = parts[k.min(count - 1)];
+            let step = format!(
+                "(by pro 0 0 0 0 {k} (let) (let) (or (+ {})))",
+                of_a(&[part])
+            );
+            cases(&[&input], &[(if k < count { 0 } else { 9 }, &step)]);
+        }
+    }
+    // An arrow atom has no part to be taken out, and other atoms have none.
+    for atom in [
+        "(sv A B () C)",
+        "(mv A B (A) none)",
+        "(mem A B)",
+        "(eq A B)",
+        "(obj A)",
+    ] {
+        for k in [0, 1] {
+            let step = format!("(by pro 0 0 0 0 {k} (let) (let) (or (+ {atom})))");
+            cases(&[&format!("(in (or (+ {atom})))")], &[(9, &step)]);
+        }
+    }
+}
+
+#[test]
+fn a_molecule_gives_its_atoms_back() {
+    assert_eq!(
+        answer(&[
+            "(in (or (+ (st A B () none))))",
+            "(in (or (+ (sv X C (B) X))))",
+            "(in (or (- (mol A (sv C (B) A) (st B () none)))))",
+            "(by mer 0 0 1 0 0 (let) (let A) (or (+ (mol A (st B () none) (sv C (B) A)))))",
+            "(by pro 3 0 0 0 1 (let) (let) (or (+ (sv A C (B) A))))",
+            "(by res 2 0 3 0 0 (let) (let) (or))",
+        ]),
+        "refuted 6 5\nrests 0 1 2"
+    );
+}

@@ -5,8 +5,16 @@ use super::{after_symbols, row, text, Made, SYMBOLS};
 /// A by line that passes.
 const STEP: &str = "(by refl 0 0 0 0 0 (let A) (let) (or (+ (sub A A))))";
 /// Literals that fail check 5, and literals that fail check 6.
-const PAST_LIMIT: [&str; 2] = ["(+ (obj (v 32)))", "(- (mt A A (A A A A A A A A A) none))"];
-const BAD_SYMBOL: [&str; 2] = ["(- (obj (f 5)))", "(+ (mv A A ((f 3 A A)) none))"];
+const PAST_LIMIT: [&str; 3] = [
+    "(+ (obj (v 32)))",
+    "(- (mt A A (A A A A A A A A A) none))",
+    "(+ (mol A (sv A () A) (mv A (A A A A A A A A A) none)))",
+];
+const BAD_SYMBOL: [&str; 3] = [
+    "(- (obj (f 5)))",
+    "(+ (mv A A ((f 3 A A)) none))",
+    "(- (mol A (sv A () A) (mv A () (f 5))))",
+];
 
 pub fn texts() -> Vec<Made> {
     [sym_lines(), in_lines(), without_constant()].concat()
@@ -46,10 +54,16 @@ fn in_lines() -> Vec<Made> {
     for limit in [
         &[][..],
         &PAST_LIMIT[..1],
-        &PAST_LIMIT[1..],
+        &PAST_LIMIT[1..2],
+        &PAST_LIMIT[2..],
         &[many.as_str()],
     ] {
-        for symbol in [&[][..], &BAD_SYMBOL[..1], &BAD_SYMBOL[1..]] {
+        for symbol in [
+            &[][..],
+            &BAD_SYMBOL[..1],
+            &BAD_SYMBOL[1..2],
+            &BAD_SYMBOL[2..],
+        ] {
             for clause in [[limit, symbol].concat(), [symbol, limit].concat()] {
                 let clause: Vec<String> = clause.iter().map(|item| item.to_string()).collect();
                 let line = row("in", &[row("or", &clause)]);

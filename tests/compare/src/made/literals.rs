@@ -1,76 +1,132 @@
-//! Steps with each form of a literal at I and at J: which atoms cover which,
+//! Steps with each form of a literal at I and at J: which atoms fit into which,
 //! and which literals have a rule's shape.
 
 use super::{step, Made};
 
-/// A form of an atom, all of whose terms are A but for the arguments.
+/// What an arrow atom says of its object, and each part of a molecule; all of
+/// its terms are A.
 #[derive(Clone, Copy, Debug, PartialEq, Eq)]
-struct Form {
-    word: &'static str,
-    /// Of an arrow.
+struct Part {
+    arrow: &'static str,
     arguments: usize,
     none: bool,
 }
 
-const ARROWS: [&str; 6] = ["sv", "si", "mv", "mi", "st", "mt"];
-
-impl Form {
-    fn new(word: &'static str) -> Self {
-        Form {
-            word,
-            arguments: 0,
-            none: false,
-        }
-    }
-
-    fn is_arrow(self) -> bool {
-        ARROWS.contains(&self.word)
+impl Part {
+    /// As it is written behind the arrow, and in an arrow atom the object.
+    fn write(self) -> String {
+        let arguments = vec!["A"; self.arguments].join(" ");
+        let result = if self.none { "none" } else { "A" };
+        format!("A ({arguments}) {result}")
     }
 
     fn is_scalar(self) -> bool {
-        matches!(self.word, "sv" | "si")
+        matches!(self.arrow, "sv" | "si")
     }
 
     fn is_signature(self) -> bool {
-        matches!(self.word, "st" | "mt")
-    }
-
-    fn write(self) -> String {
-        let result = if self.none { "none" } else { "A" };
-        match self.word {
-            "obj" => "(obj A)".into(),
-            word if self.is_arrow() => {
-                let arguments = vec!["A"; self.arguments].join(" ");
-                format!("({word} A A ({arguments}) {result})")
-            }
-            word => format!("({word} A A)"),
-        }
+        matches!(self.arrow, "st" | "mt")
     }
 
     /// Equal, or the other is this one with none.
-    fn covers(self, other: Form) -> bool {
-        let emptied = Form { none: true, ..self };
-        self == other || (self.is_arrow() && !self.is_scalar() && emptied == other)
+    fn covers(self, other: Part) -> bool {
+        let emptied = Part { none: true, ..self };
+        self == other || (!self.is_scalar() && emptied == other)
+    }
+}
+
+/// A form of an atom, all of whose terms are A but for the arguments.
+#[derive(Clone, Debug, PartialEq, Eq)]
+struct Form {
+    /// Of an atom that isn't one of the two below.
+    word: &'static str,
+    /// One of an arrow atom, two or more of a molecule.
+    parts: Vec<Part>,
+}
+
+const ARROWS: [&str; 6] = ["sv", "si", "mv", "mi", "st", "mt"];
+
+/// The molecules that stand among the forms: two arrows, each perhaps with
+/// none.
+const MOLECULES: [[(&str, bool); 2]; 6] = [
+    [("sv", false), ("mv", false)],
+    [("mv", true), ("sv", false)],
+    [("mv", false), ("mv", true)],
+    [("si", false), ("mi", false)],
+    [("st", true), ("mt", true)],
+    [("st", false), ("st", false)],
+];
+
+impl Form {
+    fn new(word: &'static str) -> Self {
+        let parts = Vec::new();
+        Form { word, parts }
+    }
+
+    fn of_parts(parts: Vec<Part>) -> Self {
+        Form { word: "", parts }
+    }
+
+    fn write(&self) -> String {
+        match (self.word, &self.parts[..]) {
+            ("obj", _) => "(obj A)".into(),
+            (word, []) => format!("({word} A A)"),
+            (_, [part]) => format!("({} A {})", part.arrow, part.write()),
+            (_, parts) => {
+                let part = |part: &Part| format!(" ({} {})", part.arrow, part.write());
+                let parts: String = parts.iter().map(part).collect();
+                format!("(mol A{parts})")
+            }
+        }
+    }
+
+    /// Whether it fits into the other. All objects are equal.
+    fn fits_into(&self, other: &Form) -> bool {
+        let covered = |part: &Part| other.parts.iter().any(|other| other.covers(*part));
+        self.word == other.word && self.parts.iter().all(covered)
+    }
+
+    fn is_molecule(&self) -> bool {
+        self.parts.len() > 1
+    }
+
+    /// Whether it is an arrow atom of this kind.
+    fn is_arrow(&self, kind: fn(Part) -> bool) -> bool {
+        matches!(self.parts[..], [part] if kind(part))
     }
 }
 
 /// The arrows with so many arguments, with a term result and with none.
 fn arrows(arguments: usize) -> Vec<Form> {
-    let arrow = |&word: &&'static str| {
-        let form = Form {
+    let arrow = |&arrow: &&'static str| {
+        let part = |none| Part {
+            arrow,
             arguments,
-            ..Form::new(word)
+            none,
         };
-        let none = Form { none: true, ..form };
-        vec![form, none][..2 - usize::from(form.is_scalar())].to_vec()
+        let parts = [part(false), part(true)];
+        let count = 2 - usize::from(parts[0].is_scalar());
+        parts[..count].to_vec()
     };
-    ARROWS.iter().flat_map(arrow).collect()
+    let parts = ARROWS.iter().flat_map(arrow);
+    parts.map(|part| Form::of_parts(vec![part])).collect()
+}
+
+/// The molecules whose parts have so many arguments.
+fn molecules(arguments: usize) -> Vec<Form> {
+    let part = |(arrow, none)| Part {
+        arrow,
+        arguments,
+        none,
+    };
+    let form = |parts: [(&'static str, bool); 2]| Form::of_parts(parts.map(part).to_vec());
+    MOLECULES.map(form).to_vec()
 }
 
 /// All forms with as many arguments.
 fn forms(arguments: usize) -> Vec<Form> {
     let others = ["eq", "mem", "sub", "obj"].map(Form::new);
-    [others.to_vec(), arrows(arguments)].concat()
+    [others.to_vec(), arrows(arguments), molecules(arguments)].concat()
 }
 
 pub fn texts() -> Vec<Made> {
@@ -78,7 +134,7 @@ pub fn texts() -> Vec<Made> {
 }
 
 /// A literal in a clause of its own or behind others.
-fn literal(positive: bool, form: Form) -> String {
+fn literal(positive: bool, form: &Form) -> String {
     let sign = if positive { '+' } else { '-' };
     format!("({sign} {})", form.write())
 }
@@ -86,22 +142,29 @@ fn literal(positive: bool, form: Form) -> String {
 /// res and fac between any two forms, and between arrows of the same word with
 /// different numbers of arguments.
 fn coverings() -> Vec<Made> {
-    let all = forms(0);
     let mut pairs: Vec<(Form, Form)> = Vec::new();
-    for &first in &all {
-        pairs.extend(all.iter().map(|&second| (first, second)));
+    for first in forms(0) {
+        pairs.extend(forms(0).into_iter().map(|second| (first.clone(), second)));
     }
     let counted: Vec<Form> = (0..3).flat_map(arrows).collect();
-    for &first in &counted {
-        let alike = |other: &&Form| other.word == first.word && other.arguments != first.arguments;
-        pairs.extend(counted.iter().filter(alike).map(|&second| (first, second)));
+    for first in &counted {
+        let alike = |other: &&Form| {
+            let [one, other] = [first.parts[0], other.parts[0]];
+            other.arrow == one.arrow && other.arguments != one.arguments
+        };
+        let alike = counted.iter().filter(alike).cloned();
+        pairs.extend(alike.map(|second| (first.clone(), second)));
     }
-    pairs.into_iter().flat_map(covering).collect()
+    pairs.iter().flat_map(covering).collect()
 }
 
 /// A literal at I and one at J, by res and by both kinds of fac.
-fn covering((first, second): (Form, Form)) -> Vec<Made> {
-    let refused = if second.covers(first) { None } else { Some(10) };
+fn covering((first, second): &(Form, Form)) -> Vec<Made> {
+    let refused = if first.fits_into(second) {
+        None
+    } else {
+        Some(10)
+    };
     let units = [
         format!("(or {})", literal(false, first)),
         format!("(or {})", literal(true, second)),
@@ -122,11 +185,13 @@ fn covering((first, second): (Form, Form)) -> Vec<Made> {
 
 /// sca between any two scalar forms.
 fn scalars() -> Vec<Made> {
-    let counted = (0..3).flat_map(arrows).filter(|form| form.is_scalar());
-    let counted: Vec<Form> = counted.collect();
+    let counted = (0..3).flat_map(arrows);
+    let counted: Vec<Form> = counted
+        .filter(|form| form.is_arrow(Part::is_scalar))
+        .collect();
     let mut all = Vec::new();
-    for &first in &counted {
-        for &second in &counted {
+    for first in &counted {
+        for second in &counted {
             let inputs = [first, second].map(|form| format!("(or {})", literal(true, form)));
             let line = "(by sca 0 0 1 0 0 (let) (let) (or (+ (eq A A))))";
             let refused = if first == second { None } else { Some(10) };
@@ -137,7 +202,7 @@ fn scalars() -> Vec<Made> {
 }
 
 /// For each rule whether a literal has the shape asked for at I and at J.
-fn fits(rule: &str, at_second: bool, positive: bool, form: Form) -> bool {
+fn fits(rule: &str, at_second: bool, positive: bool, form: &Form) -> bool {
     match (rule, at_second) {
         ("res", false) => !positive,
         ("res", true) => positive,
@@ -145,51 +210,48 @@ fn fits(rule: &str, at_second: bool, positive: bool, form: Form) -> bool {
         ("par", true) => positive && form.word == "eq",
         ("acy" | "tra", false) => positive && form.word == "sub",
         ("inc", false) => positive && form.word == "mem",
-        ("inh" | "inp", false) => positive && form.is_signature(),
-        ("out", false) => positive && form.is_signature() && !form.none,
-        ("sca", _) => positive && form.is_scalar(),
+        ("inh" | "inp", false) => positive && form.is_arrow(Part::is_signature),
+        ("out", false) => positive && form.is_arrow(|part| part.is_signature() && !part.none),
+        ("sca", _) => positive && form.is_arrow(Part::is_scalar),
         ("eli", _) => !positive && form.word == "obj",
+        ("mer", _) => positive && !form.parts.is_empty(),
+        ("pro", _) => positive && form.is_molecule(),
         _ => positive && form.word == "sub",
     }
 }
 
 /// For each rule but refl and fac a literal that fits at I, and its sign, and
-/// a positive one at J.
-const FITTING: [(&str, (bool, &str), Option<&str>); 10] = [
-    ("res", (false, "mem"), Some("mem")),
-    ("par", (true, "mem"), Some("eq")),
-    ("acy", (true, "sub"), Some("sub")),
-    ("tra", (true, "sub"), Some("sub")),
-    ("inc", (true, "mem"), Some("sub")),
-    ("inh", (true, "st"), Some("sub")),
-    ("inp", (true, "mt"), Some("sub")),
-    ("out", (true, "mt"), Some("sub")),
-    ("sca", (true, "sv"), Some("sv")),
-    ("eli", (false, "obj"), None),
+/// a positive one at J. The arrows have an argument, which inp needs.
+const FITTING: [(&str, (bool, &str), Option<&str>); 12] = [
+    ("res", (false, "(mem A A)"), Some("(mem A A)")),
+    ("par", (true, "(mem A A)"), Some("(eq A A)")),
+    ("acy", (true, "(sub A A)"), Some("(sub A A)")),
+    ("tra", (true, "(sub A A)"), Some("(sub A A)")),
+    ("inc", (true, "(mem A A)"), Some("(sub A A)")),
+    ("inh", (true, "(st A A (A) A)"), Some("(sub A A)")),
+    ("inp", (true, "(mt A A (A) A)"), Some("(sub A A)")),
+    ("out", (true, "(mt A A (A) A)"), Some("(sub A A)")),
+    ("sca", (true, "(sv A A (A) A)"), Some("(sv A A (A) A)")),
+    ("eli", (false, "(obj A)"), None),
+    ("mer", (true, "(mi A A (A) A)"), Some("(sv A A (A) A)")),
+    ("pro", (true, "(mol A (mi A (A) A) (sv A (A) A))"), None),
 ];
 
 /// Steps in which one of the two literals is replaced by each literal that
 /// doesn't fit, and for the rules of signatures the one at I by each that does.
-/// Arrows have an argument, which inp needs.
 fn shapes() -> Vec<Made> {
-    let fitting = |positive: bool, word: &'static str| {
-        let form = Form::new(word);
-        literal(
-            positive,
-            Form {
-                arguments: 1,
-                ..form
-            },
-        )
+    let signed = |positive: bool, atom: &str| {
+        let sign = if positive { '+' } else { '-' };
+        format!("({sign} {atom})")
     };
     let mut all = Vec::new();
-    for (rule, (positive, word), second) in FITTING {
+    for (rule, (positive, first), second) in FITTING {
         let (first, second) = (
-            fitting(positive, word),
-            second.map(|word| fitting(true, word)),
+            signed(positive, first),
+            second.map(|second| signed(true, second)),
         );
         for (positive, form) in forms(1)
-            .into_iter()
+            .iter()
             .flat_map(|form| [(true, form), (false, form)])
         {
             let other = literal(positive, form);

@@ -139,6 +139,16 @@ pub(super) fn by_each_rule() -> Vec<Refutation> {
             ],
         ),
         Refutation::new(&["(- (obj X))"], &["eli 0 0 0 0 0 (let A) (let) (or)"]),
+        Refutation::new(
+            &[
+                "(- (mv A B (C) none))",
+                "(+ (mol A (sv B () C) (mv B (X) X)))",
+            ],
+            &[
+                "pro 1 0 0 0 1 (let C) (let) (or (+ (mv A B (C) C)))",
+                "res 0 0 2 0 0 (let) (let) (or)",
+            ],
+        ),
     ];
     all.extend(FROM_TWO.map(from_two));
     all
@@ -147,7 +157,7 @@ pub(super) fn by_each_rule() -> Vec<Refutation> {
 /// A rule with two parents, its literals at I and at J, and the new one's atom.
 type FromTwo = (&'static str, [&'static str; 2], &'static str);
 
-const FROM_TWO: [FromTwo; 10] = [
+const FROM_TWO: [FromTwo; 11] = [
     ("par", ["(+ (mem A C))", "(+ (eq A B))"], "(mem B C)"),
     ("acy", ["(+ (sub A B))", "(+ (sub B A))"], "(eq A B)"),
     ("tra", ["(+ (sub A B))", "(+ (sub B C))"], "(sub A C)"),
@@ -181,6 +191,14 @@ const FROM_TWO: [FromTwo; 10] = [
         "sca",
         ["(+ (sv C C () A))", "(+ (sv C C () B))"],
         "(eq A B)",
+    ),
+    (
+        "mer",
+        [
+            "(+ (sv A B () C))",
+            "(+ (mol A (mv B (C) none) (st C () C)))",
+        ],
+        "(mol A (sv B () C) (mv B (C) none) (st C () C))",
     ),
 ];
 
@@ -253,6 +271,11 @@ fn same_parents() -> Vec<Made> {
         ("tra", "(+ (sub A A))", "(sub A A)"),
         ("par", "(+ (eq A A))", "(eq A A)"),
         ("sca", "(+ (si A B (C) A))", "(eq A A)"),
+        (
+            "mer",
+            "(+ (sv A B () C))",
+            "(mol A (sv B () C) (sv B () C))",
+        ),
     ];
     let made = |(rule, parent, atom): (&str, &str, &str)| {
         let denied = format!("(- {atom})");

@@ -17,7 +17,7 @@ struct Right {
     claim: &'static str,
 }
 
-const RIGHT: [Right; 12] = [
+const RIGHT: [Right; 14] = [
     Right {
         rule: "refl",
         parents: ["", ""],
@@ -122,6 +122,25 @@ const RIGHT: [Right; 12] = [
         numbers: [0, 0, 0, 0, 0],
         lists: ["B", ""],
         claim: "(+ (obj A))",
+    },
+    Right {
+        rule: "mer",
+        parents: [
+            "(+ (mol X (sv A () B) (mv B (X) none))) (+ (obj A))",
+            "(+ (mt A X (B) none)) (- (obj B))",
+        ],
+        wrong: "(+ (mt C X (B) none)) (- (obj B))",
+        numbers: [0, 0, 1, 0, 0],
+        lists: ["A", "C"],
+        claim: "(+ (mol A (sv A () B) (mv B (A) none) (mt C (B) none))) (+ (obj A)) (- (obj B))",
+    },
+    Right {
+        rule: "pro",
+        parents: ["(+ (mol X (sv A () B) (mv B (X) none))) (+ (obj A))", ""],
+        wrong: "",
+        numbers: [0, 0, 0, 0, 1],
+        lists: ["B", ""],
+        claim: "(+ (mv B B (B) none)) (+ (obj A))",
     },
 ];
 

@@ -48,7 +48,7 @@ const PAIRS: [Pair; 13] = [
 /// compared, the claim, with those of the first literal, and K.
 type Row = (&'static str, [&'static str; 2], &'static str, usize);
 
-const ROWS: [Row; 20] = [
+const ROWS: [Row; 26] = [
     ("res", ["(- (mem P Q))", "(+ (mem P Q))"], "", 0),
     ("res", ["(- (sv C P () Q))", "(+ (sv C P () Q))"], "", 0),
     (
@@ -152,6 +152,54 @@ const ROWS: [Row; 20] = [
         "sca",
         ["(+ (si A P (B Q) B))", "(+ (si A P (B Q) C))"],
         "(+ (eq B C))",
+        0,
+    ),
+    (
+        "res",
+        [
+            "(- (mol P (sv A () B) (mv C (Q) none)))",
+            "(+ (mol P (mv C (Q) A) (sv A () B)))",
+        ],
+        "",
+        0,
+    ),
+    (
+        "res",
+        [
+            "(- (si P C () Q))",
+            "(+ (mol P (mv B () none) (si C () Q)))",
+        ],
+        "",
+        0,
+    ),
+    (
+        "fac",
+        [
+            "(+ (mol P (mi Q () B) (st B () none)))",
+            "(+ (mol P (st B () C) (mi Q () B)))",
+        ],
+        "(+ (mol P (mi Q () B) (st B () none)))",
+        0,
+    ),
+    (
+        "par",
+        ["(- (mol A (sv B () C) (mv P () none)))", "(+ (eq P C))"],
+        "(- (mol A (sv B () C) (mv C () none)))",
+        3,
+    ),
+    (
+        "par",
+        ["(+ (mol P (sv B () C) (mv B () none)))", "(+ (eq P C))"],
+        "(+ (mol C (sv B () C) (mv B () none)))",
+        0,
+    ),
+    (
+        "mer",
+        [
+            "(+ (mv P A () none))",
+            "(+ (mol P (sv A () B) (st C () C)))",
+        ],
+        "(+ (mol P (mv A () none) (sv A () B) (st C () C)))",
         0,
     ),
 ];

@@ -3,17 +3,19 @@
 use super::{after_symbols, Made, SYMBOLS};
 
 /// Lines that are forms, in which each word stands.
-const LINES: [&str; 6] = [
+const LINES: [&str; 8] = [
     "(sym 0)",
     "(in (or (+ (eq A X)) (- (mem A B)) (+ (sub A B)) (- (obj A))))",
     "(in (or (+ (sv A A () A)) (+ (si A A () A))))",
     "(in (or (+ (mv A A () none)) (+ (mi A A () none))))",
     "(in (or (+ (st A A () none)) (+ (mt A A () none))))",
+    "(in (or (+ (mol A (sv A () A) (si A () A) (mv A () none)))))",
+    "(in (or (- (mol A (mi A () none) (st A () none) (mt A () none)))))",
     "(by refl 0 0 0 0 0 (let A) (let) (or (+ (sub A A))))",
 ];
 /// The words that stand in no line above.
-const RULES: [&str; 11] = [
-    "res", "fac", "par", "acy", "tra", "inc", "inh", "inp", "out", "sca", "eli",
+const RULES: [&str; 13] = [
+    "res", "fac", "par", "acy", "tra", "inc", "inh", "inp", "out", "sca", "eli", "mer", "pro",
 ];
 
 pub fn texts() -> Vec<Made> {

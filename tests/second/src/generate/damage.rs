@@ -3,10 +3,10 @@
 use super::derive::{filled_occurrence, random_term, Derivation};
 use super::model::{
     clause_variables, used_numbers, uses_first, uses_second, write_lines, Atom, Clause, Line,
-    Literal, Step, Term, ARROWS, PAIRS, RULES,
+    Literal, Step, Term, ARROWS, MOLECULE, PAIRS, RULES,
 };
 use super::random::Random;
-use crate::{MAX_ARGUMENTS, MAX_LIST_TERMS, MAX_LITERALS, MAX_VARIABLE};
+use crate::{MAX_ARGUMENTS, MAX_LIST_TERMS, MAX_LITERALS, MAX_PARTS, MAX_VARIABLE};
 
 /// Damages the structure of a derivation's text, mostly in one step, where
 /// it can of the given rule.
@@ -221,7 +221,7 @@ impl<'a> Damager<'a> {
     // ----- check 5 -----
 
     fn pass_limit(&mut self) {
-        match self.random.below(6) {
+        match self.random.below(7) {
             0..=2 => self.edit_term(|random, _, term| {
                 let highest = u32::from(MAX_VARIABLE);
                 *term = Term::Var(*random.pick(&[highest + 1, highest + 2, 100, 65_535]));
@@ -238,22 +238,17 @@ impl<'a> Damager<'a> {
                     step.claim.resize(MAX_LITERALS + 1, last);
                 }
             }),
-            _ => {
-                let wide = |random: &mut Random, literal: &mut Literal| {
-                    if !literal.atom.is_arrow() {
-                        reword(random, &mut literal.atom, "mv");
-                    }
-                    let term = literal.atom.terms[0].clone();
-                    while literal.atom.arguments() <= MAX_ARGUMENTS.into() {
-                        literal.atom.terms.insert(2, term.clone());
-                    }
+            case => {
+                let wide = match case {
+                    5 => add_arguments,
+                    _ => add_parts,
                 };
                 if self.random.percent(50) {
-                    self.edit_premise(false, |random, _, literal| wide(random, literal));
+                    self.edit_premise(false, |random, _, literal| wide(random, &mut literal.atom));
                 } else {
                     self.edit_step(|random, _, step| {
                         if let Some(literal) = step.claim.first_mut() {
-                            wide(random, literal);
+                            wide(random, &mut literal.atom);
                         }
                     });
                 }
@@ -370,10 +365,11 @@ impl<'a> Damager<'a> {
                 self.edit_step(|_, _, step| step.numbers[3] = position);
             }
             2 if rule == "fac" => self.edit_step(|_, _, step| step.numbers[3] = i),
-            2 | 3 if matches!(rule, "par" | "inp") => {
+            2 | 3 if matches!(rule, "par" | "inp" | "pro") => {
                 let end = match (rule, occurrences) {
                     ("par", Some(atom)) => atom.occurrences(),
                     ("inp", Some(atom)) if atom.is_arrow() => atom.arguments(),
+                    ("pro", Some(atom)) => atom.parts.len(),
                     _ => 0,
                 };
                 let number = end + *self.random.pick(&[0, 0, 1, 2]);
@@ -423,6 +419,8 @@ impl<'a> Damager<'a> {
     fn spoil_agreement(&mut self) {
         let second = self.random.percent(60);
         let literal = self.premise(false);
+        let merges =
+            matches!(self.lines.get(self.target), Some(Line::By(step)) if step.rule == "mer");
         match self.random.below(14) {
             0 => self.edit_step(|random, _, step| {
                 let list = &mut step.lists[random.below(2)];
@@ -438,9 +436,10 @@ impl<'a> Damager<'a> {
             }),
             2 | 3 => self.edit_step(|random, _, step| match step.rule {
                 "fac" => step.numbers.swap(1, 3),
-                "par" | "inp" => {
+                "par" | "inp" | "pro" => {
                     let end = literal.map_or(0, |literal| match step.rule {
                         "inp" if literal.atom.is_arrow() => literal.atom.arguments(),
+                        "pro" => literal.atom.parts.len(),
                         _ => literal.atom.occurrences(),
                     });
                     step.numbers[4] = random.below(end);
@@ -457,8 +456,9 @@ impl<'a> Damager<'a> {
                 self.edit_premise(second, |_, _, literal| literal.atom.terms.reverse());
             }
             8..=10 if self.premise_is_input(second) => {
-                self.edit_premise(second, |random, arities, literal| {
-                    distort_atom(random, arities, &mut literal.atom);
+                self.edit_premise(second, |random, arities, literal| match merges {
+                    true => distort_term(random, arities, &mut literal.atom.terms[0]),
+                    false => distort_atom(random, arities, &mut literal.atom),
                 });
             }
             _ => self.spoil_entry(second),
@@ -492,7 +492,7 @@ impl<'a> Damager<'a> {
         let rule = step.rule;
         let literals = [self.premise(false), self.premise(true)];
         let second = self.random.percent(50);
-        match (rule, self.random.below(4)) {
+        match (rule, self.random.below(6)) {
             ("refl", _) => self.spoil_claim(),
             ("eli", _) => self.edit_premise(false, |_, _, literal| literal.positive ^= true),
             ("fac", 0) => self.edit_step(|_, _, step| drop_the_other(step, literals)),
@@ -501,30 +501,74 @@ impl<'a> Damager<'a> {
                 // The covering turned round.
                 self.edit_premise(true, |_, _, literal| literal.atom = literal.atom.emptied());
                 self.edit_premise(false, |random, _, literal| {
-                    if literal.atom.none {
-                        toggle_none(random, &mut literal.atom);
+                    for part in 0..literal.atom.atoms().len() {
+                        literal.atom.edit_part(part, |atom| {
+                            if atom.none {
+                                toggle_none(random, atom);
+                            }
+                        });
                     }
                 });
             }
             ("res" | "fac" | "sca", 2) => self.edit_premise(second, |random, _, literal| {
                 change_argument_count(random, &mut literal.atom);
             }),
-            ("res" | "fac" | "sca", _) => self.edit_premise(second, |random, _, literal| {
+            ("res" | "fac" | "sca", 3) => self.edit_premise(second, |random, _, literal| {
                 to_nearest_word(random, &mut literal.atom);
             }),
-            ("par", 0 | 1) => self.edit_step(|_, _, step| {
+            // The objects aren't compared.
+            ("res" | "fac", 4) | ("mer", 0..=2) => {
+                self.edit_premise(second, |random, arities, literal| {
+                    distort_term(random, arities, &mut literal.atom.terms[0]);
+                })
+            }
+            // Some parts of the first are covered, but not each.
+            ("res" | "fac", _) => {
+                if self.random.percent(50) {
+                    self.edit_premise(false, |random, arities, literal| {
+                        add_part(random, arities, &mut literal.atom);
+                    });
+                } else {
+                    self.edit_premise(true, |random, _, literal| {
+                        drop_part(random, &mut literal.atom);
+                    });
+                }
+            }
+            // B's parts before A's, or parts elsewhere.
+            ("mer", _) => self.edit_step(|random, _, step| {
+                let [Some(first), _] = &literals else {
+                    return;
+                };
+                let count = first.atom.atoms().len();
+                if let Some(new) = step.claim.first_mut() {
+                    move_parts(random, &mut new.atom, count);
+                }
+            }),
+            // Another part.
+            ("pro", 0..=3) => self.edit_step(|random, _, step| {
+                let next = step.numbers[4] + 1;
+                step.numbers[4] = *random.pick(&[next, next.saturating_sub(2)]);
+            }),
+            // The part itself at I.
+            ("pro", _) => {
+                self.edit_premise(false, |random, _, literal| {
+                    reword(random, &mut literal.atom, "mv");
+                });
+                self.edit_step(|_, _, step| step.numbers[4] = 0);
+            }
+            ("par", 0..=2) => self.edit_step(|_, _, step| {
                 if let [Some(literal), _] = &literals {
                     count_after_filling(step, literal);
                 }
             }),
             // A term dropped for none, or none for a term.
-            ("inh" | "inp", 0) => self.edit_step(|random, _, step| {
+            ("inh" | "inp", 0 | 1) => self.edit_step(|random, _, step| {
                 if let Some(new) = step.claim.first_mut() {
                     toggle_none(random, &mut new.atom);
                 }
             }),
             // none widened, and kept.
-            ("out", 0) => {
+            ("out", 0 | 1) => {
                 let empty = |literal: &mut Literal| literal.atom = literal.atom.emptied();
                 self.edit_premise(false, |_, _, literal| empty(literal));
                 self.edit_step(|_, _, step| step.claim.first_mut().into_iter().for_each(empty));
@@ -632,16 +676,30 @@ fn drop_the_other(step: &mut Step, [first, second]: [Option<Literal>; 2]) {
 }
 
 fn random_word(random: &mut Random) -> &'static str {
-    let words: &[&'static str] = match random.below(10) {
+    let words: &[&'static str] = match random.below(12) {
         0 => &["obj"],
         1..=4 => &PAIRS,
+        5 | 6 => &[MOLECULE],
         _ => &ARROWS,
     };
     words[random.below(words.len())]
 }
 
-/// Gives the atom another word, with as few changes to its terms as can be.
+/// Gives the atom another word, with as few changes to its terms as can be. Of a
+/// molecule a part stays, and of a part two make one.
 fn reword(random: &mut Random, atom: &mut Atom, word: &'static str) {
+    match (atom.is_molecule(), word == MOLECULE) {
+        (true, true) => return,
+        (true, false) => *atom = some_part(random, atom),
+        (false, true) => {
+            if !atom.is_arrow() {
+                reword(random, atom, "mv");
+            }
+            *atom = Atom::molecule(&[atom.clone(), atom.clone()]);
+            return;
+        }
+        (false, false) => {}
+    }
     let padding = atom.terms[0].clone();
     let arrow = ARROWS.contains(&word);
     if word == "obj" {
@@ -659,8 +717,95 @@ fn reword(random: &mut Random, atom: &mut Atom, word: &'static str) {
     atom.word = word;
 }
 
+/// The arrow atom of some part of a molecule.
+fn some_part(random: &mut Random, atom: &Atom) -> Atom {
+    random.pick(&atom.atoms()).clone()
+}
+
+/// Edits an arrow atom, or that of some part of a molecule.
+fn edit_some_part(random: &mut Random, atom: &mut Atom, edit: impl FnOnce(&mut Random, &mut Atom)) {
+    let parts = atom.atoms().len();
+    if parts > 0 {
+        let place = random.below(parts);
+        atom.edit_part(place, |part| edit(random, part));
+    }
+}
+
+/// Makes more arguments than there may be.
+fn add_arguments(random: &mut Random, atom: &mut Atom) {
+    if !atom.is_molecule() && !atom.is_arrow() {
+        reword(random, atom, "mv");
+    }
+    edit_some_part(random, atom, |_, part| {
+        let term = part.terms[0].clone();
+        while part.arguments() <= MAX_ARGUMENTS.into() {
+            part.terms.insert(2, term.clone());
+        }
+    });
+}
+
+/// Makes more parts than there may be.
+fn add_parts(random: &mut Random, atom: &mut Atom) {
+    if !atom.is_molecule() && !atom.is_arrow() {
+        reword(random, atom, "mv");
+    }
+    let mut atoms = atom.atoms();
+    while atoms.len() <= MAX_PARTS {
+        let part = random.pick(&atoms).clone();
+        atoms.push(part);
+    }
+    *atom = Atom::molecule(&atoms);
+}
+
+/// Gives an arrow atom or a molecule one part more.
+fn add_part(random: &mut Random, arities: &[usize], atom: &mut Atom) {
+    let mut atoms = atom.atoms();
+    if !atoms.is_empty() {
+        let mut part = some_part(random, atom);
+        let place = random.between(1, part.terms.len() - 1);
+        distort_term(random, arities, &mut part.terms[place]);
+        atoms.insert(random.below(atoms.len() + 1), part);
+        *atom = Atom::molecule(&atoms);
+    }
+}
+
+/// Takes a part of a molecule away; what is left of two is mostly an arrow
+/// atom.
+fn drop_part(random: &mut Random, atom: &mut Atom) {
+    let mut atoms = atom.atoms();
+    if atom.is_molecule() && atoms.len() > 1 {
+        atoms.remove(random.below(atoms.len()));
+        // A molecule of one part isn't a form.
+        *atom = match random.percent(90) {
+            true => Atom::joined(&atoms),
+            false => Atom::molecule(&atoms),
+        };
+    }
+}
+
+/// Moves so many parts of a molecule to its end, or some others.
+fn move_parts(random: &mut Random, atom: &mut Atom, count: usize) {
+    let mut atoms = atom.atoms();
+    if !atom.is_molecule() {
+        return;
+    }
+    let place = random.below(atoms.len());
+    match random.below(4) {
+        0 | 1 => {
+            let count = count.min(atoms.len());
+            atoms.rotate_left(count);
+        }
+        2 => atoms.swap(0, place),
+        _ => atoms[place..].reverse(),
+    }
+    *atom = Atom::molecule(&atoms);
+}
+
 /// Puts `none` for a term result, or a term for `none`.
 fn toggle_none(random: &mut Random, atom: &mut Atom) {
+    if atom.is_molecule() {
+        return edit_some_part(random, atom, toggle_none);
+    }
     if atom.none {
         let term = random.pick(&atom.terms).clone();
         atom.terms.push(term);
@@ -673,6 +818,9 @@ fn toggle_none(random: &mut Random, atom: &mut Atom) {
 
 /// Gives the atom the nearest other word of its kind.
 fn to_nearest_word(random: &mut Random, atom: &mut Atom) {
+    if atom.is_molecule() {
+        return edit_some_part(random, atom, to_nearest_word);
+    }
     let word = match atom.word {
         "sv" => "si",
         "si" => "sv",
@@ -692,7 +840,7 @@ fn to_nearest_word(random: &mut Random, atom: &mut Atom) {
 /// are alike up to the shorter list.
 fn change_argument_count(random: &mut Random, atom: &mut Atom) {
     if !atom.is_arrow() {
-        return;
+        return edit_some_part(random, atom, change_argument_count);
     }
     let end = 2 + atom.arguments();
     if atom.arguments() > 0 && random.percent(50) {
@@ -705,6 +853,13 @@ fn change_argument_count(random: &mut Random, atom: &mut Atom) {
 
 /// Changes an atom somewhere.
 fn distort_atom(random: &mut Random, arities: &[usize], atom: &mut Atom) {
+    if atom.is_molecule() && random.percent(40) {
+        return match random.below(3) {
+            0 => add_part(random, arities, atom),
+            1 => drop_part(random, atom),
+            _ => move_parts(random, atom, 1),
+        };
+    }
     let place = random.below(atom.terms.len());
     match random.below(8) {
         0 => to_nearest_word(random, atom),
@@ -713,7 +868,7 @@ fn distort_atom(random: &mut Random, arities: &[usize], atom: &mut Atom) {
             reword(random, atom, word);
         }
         2 => toggle_none(random, atom),
-        3 | 4 if atom.is_arrow() => change_argument_count(random, atom),
+        3 | 4 if atom.is_arrow() || atom.is_molecule() => change_argument_count(random, atom),
         5 => {
             let other = random.below(atom.terms.len());
             atom.terms.swap(place, other);

@@ -12,12 +12,14 @@ use super::model::{
 };
 use super::random::Random;
 use super::unify::Unifier;
-use crate::{MAX_DEPTH, MAX_LITERALS, MAX_VARIABLE};
+use crate::{MAX_DEPTH, MAX_LITERALS, MAX_PARTS, MAX_VARIABLE};
 
 /// The variables of B are renamed by adding this.
 const APART: u32 = MAX_VARIABLE as u32 + 1;
 /// A random term has at most so many occurrences of terms besides itself.
 const TERM_SIZE: usize = 120;
+/// A random molecule that has so many gets no further part.
+const MOLECULE_SIZE: usize = 120;
 /// An input clause of more than one literal has at most so many.
 const CLAUSE_SIZE: usize = 500;
 /// Parents that have more once they are filled aren't tried.
@@ -119,6 +121,8 @@ pub struct Style {
     pub extra_literals: usize,
     /// The most arguments of a method.
     pub arguments: usize,
+    /// The most parts of a random molecule.
+    pub parts: usize,
     /// Claims and lists that need more term occurrences aren't written.
     pub size: usize,
     /// How many steps to try for.
@@ -132,13 +136,15 @@ pub struct Style {
 impl Style {
     /// A style for a text of the common, small kind.
     pub fn small(random: &mut Random) -> Style {
+        let parts = *random.pick(&[2, 2, 3, 3, 4, 6, MAX_PARTS]);
         Style {
             depth: *random.pick(&[1, 1, 2, 2, 3, 4]),
             variables: *random.pick(&[2, 3, 4, 4, 6, 32]),
             generality: *random.pick(&[10, 30, 30, 50]),
             extra_literals: *random.pick(&[0, 1, 2, 3]),
             arguments: *random.pick(&[1, 2, 3, 8]),
-            size: 80,
+            parts,
+            size: if parts > 5 { 300 } else { 80 },
             steps: random.between(1, 8),
             refute: random.percent(45),
             recent: 0,
@@ -153,6 +159,7 @@ impl Style {
             generality: *random.pick(&[0, 10]),
             extra_literals: 0,
             arguments: 1,
+            parts: 2,
             size: 40,
             steps: random.between(8, 60),
             refute: true,
@@ -230,6 +237,14 @@ fn grow_term(
     Term::App(symbol as u32, parts)
 }
 
+/// An occurrence of a term in an atom; of a molecule often in its object.
+fn some_occurrence(random: &mut Random, atom: &Atom) -> usize {
+    if atom.is_molecule() && random.percent(25) {
+        return random.below(atom.terms[0].size());
+    }
+    random.below(atom.occurrences())
+}
+
 struct Builder<'r> {
     random: &'r mut Random,
     style: Style,
@@ -298,18 +313,79 @@ impl<'r> Builder<'r> {
     }
 
     fn ground_atom(&mut self) -> Atom {
-        match self.random.below(10) {
+        match self.random.below(12) {
             0 => Atom::new("obj", self.ground_terms(1)),
             1..=4 => {
                 let word = *self.random.pick(&PAIRS);
                 Atom::new(word, self.ground_terms(2))
             }
-            _ => {
-                let word = *self.random.pick(&ARROWS);
-                let atom = self.ground_arrow(word, 0);
-                self.perhaps_emptied(&atom, 30)
+            5 | 6 => self.ground_molecule(2),
+            _ => self.ground_part(),
+        }
+    }
+
+    /// A ground arrow atom, perhaps with `none`.
+    fn ground_part(&mut self) -> Atom {
+        let word = *self.random.pick(&ARROWS);
+        let atom = self.ground_arrow(word, 0);
+        self.perhaps_emptied(&atom, 30)
+    }
+
+    /// A ground molecule with so many parts or more; an arrow atom where it has
+    /// one.
+    fn ground_molecule(&mut self, least: usize) -> Atom {
+        let count = self.random.between(least, self.style.parts);
+        let mut atoms = vec![self.ground_part()];
+        let mut size = atoms[0].occurrences();
+        while atoms.len() < count && (atoms.len() < least || size < MOLECULE_SIZE) {
+            let atom = match self.random.percent(20) {
+                true => self.random.pick(&atoms).clone(),
+                false => self.ground_part(),
+            };
+            size += atom.occurrences();
+            atoms.push(atom);
+        }
+        Atom::joined(&atoms)
+    }
+
+    /// An atom that fits into this one: of an arrow or a molecule some of its
+    /// parts, in any order, and perhaps with `none`.
+    fn fitting(&mut self, atom: &Atom) -> Atom {
+        let atoms = atom.atoms();
+        let count = match atoms.len() {
+            0 => return atom.clone(),
+            1 if self.random.percent(80) => 1,
+            count => self.random.between(1, MAX_PARTS.min(count + 1)),
+        };
+        let mut fitting = Vec::new();
+        for _ in 0..count {
+            let atom = self.random.pick(&atoms);
+            fitting.push(self.perhaps_emptied(atom, 40));
+        }
+        Atom::joined(&fitting)
+    }
+
+    /// An atom into which this one fits: with its parts, in any order, a term
+    /// perhaps for `none`, and perhaps with others.
+    fn fitted(&mut self, atom: &Atom) -> Atom {
+        let mut atoms = atom.atoms();
+        if atoms.is_empty() {
+            return atom.clone();
+        }
+        for atom in &mut atoms {
+            if atom.none && self.random.percent(60) {
+                atom.none = false;
+                atom.terms.push(self.ground_term());
             }
         }
+        let more = if atom.is_molecule() { 40 } else { 10 };
+        while atoms.len() < MAX_PARTS && self.random.percent(more) {
+            let mut part = self.ground_part();
+            part.terms[0] = atom.terms[0].clone();
+            atoms.push(part);
+        }
+        self.random.shuffle(&mut atoms);
+        Atom::joined(&atoms)
     }
 
     fn ground_literal(&mut self) -> Literal {
@@ -339,21 +415,21 @@ impl<'r> Builder<'r> {
             "refl" => {}
             "res" => {
                 let atom = self.ground_atom();
-                let covered = self.perhaps_emptied(&atom, 40);
-                self.add_pair(Literal::new(false, covered), Literal::new(true, atom));
+                let fitting = self.fitting(&atom);
+                self.add_pair(Literal::new(false, fitting), Literal::new(true, atom));
             }
             "fac" => {
                 let positive = self.random.percent(50);
                 let atom = self.ground_atom();
-                let covered = self.perhaps_emptied(&atom, 40);
+                let fitting = self.fitting(&atom);
                 self.add_clause(vec![
-                    Literal::new(positive, covered),
+                    Literal::new(positive, fitting),
                     Literal::new(positive, atom),
                 ]);
             }
             "par" => {
                 let literal = self.ground_literal();
-                let place = self.random.below(literal.atom.occurrences());
+                let place = some_occurrence(self.random, &literal.atom);
                 let from = occurrence_in(&literal.atom.terms, place).cloned();
                 let from = from.unwrap_or_else(|| self.ground_term());
                 let to = self.ground_term();
@@ -398,6 +474,15 @@ impl<'r> Builder<'r> {
                 other.terms.pop();
                 other.terms.push(self.ground_term());
                 self.add_pair(Literal::new(true, one), Literal::new(true, other));
+            }
+            "mer" => {
+                let (one, mut other) = (self.ground_molecule(1), self.ground_molecule(1));
+                other.terms[0] = one.terms[0].clone();
+                self.add_pair(Literal::new(true, one), Literal::new(true, other));
+            }
+            "pro" => {
+                let molecule = self.ground_molecule(2);
+                self.add_clause(vec![Literal::new(true, molecule)]);
             }
             _ => {
                 let object = Atom::new("obj", self.ground_terms(1));
@@ -519,8 +604,9 @@ impl<'r> Builder<'r> {
             (a, i) = self.pick_place(firsts)?;
             let atom = &self.derivation.clause(a)[i].atom;
             k = match rule {
-                "par" => self.random.below(atom.occurrences()),
+                "par" => some_occurrence(self.random, atom),
                 "inp" => self.random.below(atom.arguments()),
+                "pro" => self.random.below(atom.parts.len()),
                 _ => 0,
             };
         }
@@ -560,10 +646,8 @@ impl<'r> Builder<'r> {
         };
 
         let mut unifier = Unifier::default();
-        for (left, right) in equations(rule, &first, i, &second, j, k)? {
-            if !unifier.unify(left, right) {
-                return None;
-            }
+        if !agree(&mut unifier, rule, &first, i, &second, j, k) {
+            return None;
         }
         let names = self.instantiate(&mut unifier, &first, &second);
         let terms = || clause_terms(&first).chain(clause_terms(&second));
@@ -684,7 +768,9 @@ impl<'r> Builder<'r> {
             size += term.size();
             term.depth() <= MAX_DEPTH && size <= self.style.size
         });
-        fits && step.claim.len() <= MAX_LITERALS
+        let mut claimed = step.claim.iter();
+        let parts_fit = claimed.all(|literal| literal.atom.parts.len() <= MAX_PARTS);
+        fits && parts_fit && step.claim.len() <= MAX_LITERALS
     }
 
     // ----- the end -----
@@ -737,15 +823,12 @@ impl<'r> Builder<'r> {
     }
 
     /// A literal of the other sign that resolves the given one away: at least
-    /// as general, perhaps with another result where `none` allows it.
+    /// as general, with another atom where one fits into the other.
     fn opposite(&mut self, literal: &Literal) -> Literal {
-        let mut atom = literal.atom.clone();
-        if literal.positive {
-            atom = self.perhaps_emptied(&atom, 40);
-        } else if atom.none && self.random.percent(60) {
-            atom.none = false;
-            atom.terms.push(self.ground_term());
-        }
+        let atom = match literal.positive {
+            true => self.fitting(&literal.atom),
+            false => self.fitted(&literal.atom),
+        };
         let mut generaliser = Generaliser {
             free: (0..APART).rev().collect(),
             taken: Vec::new(),
@@ -780,6 +863,8 @@ pub fn fits_first(rule: &str, literal: &Literal) -> bool {
         "inp" => literal.positive && atom.is_signature() && atom.arguments() > 0,
         "out" => literal.positive && atom.is_signature() && !atom.none,
         "sca" => literal.positive && atom.is_scalar(),
+        "mer" => literal.positive && (atom.is_arrow() || atom.is_molecule()),
+        "pro" => literal.positive && atom.is_molecule(),
         _ => !literal.positive && atom.word == "obj",
     }
 }
@@ -787,40 +872,85 @@ pub fn fits_first(rule: &str, literal: &Literal) -> bool {
 /// Whether a literal of B can stand at J.
 pub fn fits_second(rule: &str, literal: &Literal) -> bool {
     match rule {
+        "mer" => fits_first(rule, literal),
         "res" => literal.positive,
         "par" => literal.positive && literal.atom.word == "eq",
         "sca" => literal.positive && literal.atom.is_scalar(),
-        "refl" | "fac" | "eli" => false,
+        "refl" | "fac" | "eli" | "pro" => false,
         _ => literal.positive && literal.atom.word == "sub",
     }
 }
 
-/// The pairs of terms that the agreement asks to be equal, if no more than
-/// that is asked; for fac also the shape of the pair I, J.
-fn equations<'a>(
+/// Extends the substitution so that the agreement holds; for fac the pair I, J
+/// must have its shape too. After a failure it is of no use.
+fn agree(
+    unifier: &mut Unifier,
     rule: &str,
-    first: &'a [Literal],
+    first: &[Literal],
     i: usize,
-    second: &'a [Literal],
+    second: &[Literal],
     j: usize,
     k: usize,
+) -> bool {
+    match rule {
+        "eli" | "pro" => true,
+        "res" => fit(unifier, &first[i].atom, &second[j].atom),
+        "fac" if i == j || first[i].positive != first[j].positive => false,
+        "fac" => fit(unifier, &first[i].atom, &first[j].atom),
+        _ => {
+            let pairs = equations(rule, &first[i].atom, &second[j].atom, k);
+            pairs.is_some_and(|pairs| unify_all(unifier, &pairs))
+        }
+    }
+}
+
+fn unify_all(unifier: &mut Unifier, pairs: &[(&Term, &Term)]) -> bool {
+    (pairs.iter()).all(|(left, right)| unifier.unify(left, right))
+}
+
+/// Extends the substitution so that an atom fits into another, each of its parts
+/// into the first that can cover it.
+fn fit(unifier: &mut Unifier, atom: &Atom, other: &Atom) -> bool {
+    let (parts, others) = (atom.atoms(), other.atoms());
+    if parts.is_empty() || others.is_empty() {
+        return cover(unifier, other, atom);
+    }
+    parts.iter().all(|part| {
+        others.iter().any(|other| {
+            let mut extended = unifier.clone();
+            let covers = cover(&mut extended, other, part);
+            if covers {
+                *unifier = extended;
+            }
+            covers
+        })
+    })
+}
+
+/// Extends the substitution so that one atom, which is no molecule, covers
+/// another.
+fn cover(unifier: &mut Unifier, atom: &Atom, covered: &Atom) -> bool {
+    let pairs = covering(atom, covered);
+    pairs.is_some_and(|pairs| unify_all(unifier, &pairs))
+}
+
+/// The pairs of terms that the agreement asks to be equal, for rules that ask
+/// no more than that.
+fn equations<'a>(
+    rule: &str,
+    left: &'a Atom,
+    right: &'a Atom,
+    k: usize,
 ) -> Option<Vec<(&'a Term, &'a Term)>> {
-    let left = &first[i].atom;
-    let right = match rule {
-        "eli" => return Some(Vec::new()),
-        "fac" => &first[j].atom,
-        _ => &second[j].atom,
-    };
     let (x, y) = (&left.terms, &right.terms);
     Some(match rule {
-        "fac" if i == j || first[i].positive != first[j].positive => return None,
-        "res" | "fac" => covering(right, left)?,
         "par" => vec![(occurrence_in(x, k)?, &y[0])],
         "acy" => vec![(&x[0], &y[1]), (&x[1], &y[0])],
         "tra" | "inc" => vec![(&x[1], &y[0])],
         "inh" => vec![(&x[0], &y[1])],
         "inp" => vec![(&x[2 + k], &y[1])],
         "out" => vec![(x.last()?, &y[0])],
+        "mer" => vec![(&x[0], &y[0])],
         // sca: all terms but the results.
         _ => {
             if left.word != right.word || x.len() != y.len() {
@@ -855,6 +985,15 @@ fn new_literal(
         return None;
     }
     let mut new = fill(&first[i]);
+    if rule == "pro" {
+        new.atom = new.atom.atoms().swap_remove(k);
+        return Some(new);
+    }
+    if rule == "mer" {
+        let parts = [new.atom.atoms(), fill(&second[j]).atom.atoms()];
+        new.atom = Atom::molecule(&parts.concat());
+        return Some(new);
+    }
     let mut other = fill(&second[j]).atom.terms;
     let result = new.atom.terms.len() - 1;
     match rule {

@@ -1,12 +1,12 @@
 //! Texts at a limit and just past it, each with its answer.
 
-use super::model::{write_lines, Atom, Clause, Line, Literal, Step, Term};
+use super::model::{write_lines, Atom, Clause, Line, Literal, Step, Term, ARROWS};
 use super::random::Random;
 use super::Sample;
-use crate::{Answer, Verdict, MAX_BYTES, MAX_DEPTH, MAX_LINES, MAX_SYMBOLS};
+use crate::{Answer, Verdict, MAX_BYTES, MAX_DEPTH, MAX_LINES, MAX_PARTS, MAX_SYMBOLS};
 
 /// The number of kinds of texts that [`limit_text`] knows.
-pub const KINDS: usize = 21;
+pub const KINDS: usize = 25;
 
 /// The text of a kind; `past` says whether one past the limit is wanted.
 pub fn limit_text(random: &mut Random, kind: usize, past: bool) -> Sample {
@@ -39,12 +39,16 @@ pub fn limit_text(random: &mut Random, kind: usize, past: bool) -> Sample {
         12 => bytes(random, MAX_BYTES + over),
         13 => number(random, 65_535 + over),
         14 => clause_number(random, over),
-        15 => occurrence(over),
+        15 => occurrence(random, over),
         16 => argument(over),
         17 => filled_depth(past),
         18 => parts(8 + over),
         19 => highest_symbol(255 + over as u32),
-        _ => unended(random, past),
+        20 => unended(random, past),
+        21 => molecule(random, MAX_PARTS + over),
+        22 => merged(random, MAX_PARTS + over),
+        23 => projected(random, over),
+        _ => molecule(random, 2 - over),
     }
 }
 
@@ -172,15 +176,35 @@ fn in_list(term: Term, number: Option<u8>) -> Sample {
     sample(text(lines), 2, number.map(|number| (number, FIRST + 1)))
 }
 
-fn arguments(random: &mut Random, count: usize) -> Sample {
-    let word = *random.pick(&["sv", "si", "mv", "mi", "st", "mt"]);
-    let atom = Atom::new(word, vec![constant(); 3 + count]);
-    let atom = if random.percent(50) {
+/// An arrow atom with so many arguments.
+fn arrow(random: &mut Random, arguments: usize) -> Atom {
+    let word = *random.pick(&ARROWS);
+    let atom = Atom::new(word, vec![constant(); 3 + arguments]);
+    if random.percent(50) {
         atom.emptied()
     } else {
         atom
+    }
+}
+
+/// Arrow atoms with no argument or with one.
+fn arrows(random: &mut Random, count: usize) -> Vec<Atom> {
+    let mut arrow = || {
+        let arguments = random.below(2);
+        arrow(random, arguments)
     };
-    let clause = vec![Literal::new(true, atom)];
+    (0..count).map(|_| arrow()).collect()
+}
+
+/// So many arguments of an arrow atom, or of a part of a molecule.
+fn arguments(random: &mut Random, count: usize) -> Sample {
+    let mut atoms = vec![arrow(random, count)];
+    if random.percent(50) {
+        let others = random.between(1, 3);
+        atoms.extend(arrows(random, others));
+        random.shuffle(&mut atoms);
+    }
+    let clause = vec![Literal::new(true, Atom::joined(&atoms))];
     sample(
         text([Line::In(clause)]),
         1,
@@ -311,17 +335,25 @@ fn clause_number(random: &mut Random, over: usize) -> Sample {
 }
 
 /// Paramodulation at the last occurrence, or behind it.
-fn occurrence(over: usize) -> Sample {
-    let pair = |word, left, right| vec![Literal::new(true, Atom::new(word, vec![left, right]))];
+fn occurrence(random: &mut Random, over: usize) -> Sample {
     let tall = tower_on(constant(), 3);
+    let atom = if random.percent(50) {
+        Atom::new("mem", vec![tall; 2])
+    } else {
+        let count = random.between(2, 4);
+        Atom::molecule(&arrows(random, count))
+    };
+    let equality = Atom::new("eq", vec![constant(); 2]);
+    let last = atom.occurrences() - 1;
+    let clause = vec![Literal::new(true, atom)];
     let lines = [
-        Line::In(pair("mem", tall.clone(), tall.clone())),
-        Line::In(pair("eq", constant(), constant())),
+        Line::In(clause.clone()),
+        Line::In(vec![Literal::new(true, equality)]),
         step(
             "par",
-            [0, 0, 1, 0, 5 + over],
+            [0, 0, 1, 0, last + over],
             [Vec::new(), Vec::new()],
-            pair("mem", tall.clone(), tall),
+            clause,
         ),
     ];
     sample(text(lines), 3, (over > 0).then_some((9, FIRST + 2)))
@@ -381,6 +413,57 @@ fn highest_symbol(symbol: u32) -> Sample {
         1,
         (symbol > 255).then_some((6, MAX_SYMBOLS + 1)),
     )
+}
+
+/// A molecule with so many parts, in an input clause.
+fn molecule(random: &mut Random, count: usize) -> Sample {
+    let atom = Atom::molecule(&arrows(random, count));
+    let clause = vec![
+        object(true, constant()),
+        Literal::new(random.percent(50), atom),
+    ];
+    let number = match count {
+        0 | 1 => Some(2),
+        2..=16 => None,
+        _ => Some(5),
+    };
+    let refused = number.map(|number| (number, FIRST));
+    sample(text([Line::In(clause)]), 1, refused)
+}
+
+/// So many parts merged from two clauses.
+fn merged(random: &mut Random, count: usize) -> Sample {
+    let atoms = arrows(random, count);
+    let clause = |atoms: &[Atom]| vec![Literal::new(true, Atom::joined(atoms))];
+    let (first, second) = atoms.split_at(random.between(1, MAX_PARTS - 1));
+    let lines = [
+        Line::In(clause(first)),
+        Line::In(clause(second)),
+        step(
+            "mer",
+            [0, 0, 1, 0, 0],
+            [Vec::new(), Vec::new()],
+            clause(&atoms),
+        ),
+    ];
+    let refused = (count > MAX_PARTS).then_some((5, FIRST + 2));
+    sample(text(lines), 3, refused)
+}
+
+/// The last part of a molecule, or the one behind it.
+fn projected(random: &mut Random, over: usize) -> Sample {
+    let count = *random.pick(&[2, 3, MAX_PARTS - 1, MAX_PARTS]);
+    let mut atoms = arrows(random, count);
+    let lines = [
+        Line::In(vec![Literal::new(true, Atom::molecule(&atoms))]),
+        step(
+            "pro",
+            [0, 0, 0, 0, count - 1 + over],
+            [Vec::new(), Vec::new()],
+            vec![Literal::new(true, atoms.swap_remove(count - 1))],
+        ),
+    ];
+    sample(text(lines), 2, (over > 0).then_some((9, FIRST + 1)))
 }
 
 /// The last line with or without its line end.

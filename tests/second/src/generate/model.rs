@@ -7,14 +7,17 @@
 use std::collections::BTreeSet;
 use std::fmt::Write;
 
-/// The twelve rules.
-pub const RULES: [&str; 12] = [
-    "refl", "res", "fac", "par", "acy", "tra", "inc", "inh", "inp", "out", "sca", "eli",
+/// The fourteen rules.
+pub const RULES: [&str; 14] = [
+    "refl", "res", "fac", "par", "acy", "tra", "inc", "inh", "inp", "out", "sca", "eli", "mer",
+    "pro",
 ];
 /// The atoms of two terms.
 pub const PAIRS: [&str; 3] = ["eq", "mem", "sub"];
 /// The arrows.
 pub const ARROWS: [&str; 6] = ["sv", "si", "mv", "mi", "st", "mt"];
+/// The word of a molecule.
+pub const MOLECULE: &str = "mol";
 
 /// Whether the rule uses a parent A.
 pub fn uses_first(rule: &str) -> bool {
@@ -23,7 +26,7 @@ pub fn uses_first(rule: &str) -> bool {
 
 /// Whether the rule uses a parent B.
 pub fn uses_second(rule: &str) -> bool {
-    !matches!(rule, "refl" | "fac" | "eli")
+    !matches!(rule, "refl" | "fac" | "eli" | "pro")
 }
 
 /// Which of A I B J K the rule uses.
@@ -35,7 +38,7 @@ pub fn used_numbers(rule: &str) -> [bool; 5] {
         first,
         second,
         second || rule == "fac",
-        matches!(rule, "par" | "inp"),
+        matches!(rule, "par" | "inp" | "pro"),
     ]
 }
 
@@ -141,13 +144,32 @@ pub fn occurrence_in_mut(terms: &mut [Term], mut index: usize) -> Option<&mut Te
     None
 }
 
+/// A part of a molecule but for its terms, which are method, arguments and,
+/// unless `none`, the result.
+#[derive(Clone, Copy, Debug, PartialEq, Eq)]
+pub struct Part {
+    pub word: &'static str,
+    pub arguments: usize,
+    pub none: bool,
+}
+
+impl Part {
+    /// The number of its terms.
+    fn terms(self) -> usize {
+        1 + self.arguments + usize::from(!self.none)
+    }
+}
+
 /// An atom: its word and its terms in order. An arrow's terms are object,
-/// method, arguments and, unless `none`, the result.
+/// method, arguments and, unless `none`, the result; a molecule's are its
+/// object and those of its parts.
 #[derive(Clone, Debug, PartialEq, Eq)]
 pub struct Atom {
     pub word: &'static str,
     pub terms: Vec<Term>,
     pub none: bool,
+    /// Of a molecule.
+    pub parts: Vec<Part>,
 }
 
 impl Atom {
@@ -156,11 +178,81 @@ impl Atom {
             word,
             terms,
             none: false,
+            parts: Vec::new(),
+        }
+    }
+
+    /// The molecule of the parts of these arrow atoms, with the first one's
+    /// object.
+    pub fn molecule(atoms: &[Atom]) -> Self {
+        let object = atoms[0].terms[0].clone();
+        let parts = atoms.iter().flat_map(|atom| atom.terms[1..].to_vec());
+        Atom {
+            word: MOLECULE,
+            terms: [object].into_iter().chain(parts).collect(),
+            none: false,
+            parts: atoms.iter().map(Atom::part).collect(),
+        }
+    }
+
+    /// The same, or the arrow atom itself where there is no other.
+    pub fn joined(atoms: &[Atom]) -> Self {
+        match atoms {
+            [atom] => atom.clone(),
+            _ => Atom::molecule(atoms),
         }
     }
 
     pub fn is_arrow(&self) -> bool {
         ARROWS.contains(&self.word)
+    }
+
+    pub fn is_molecule(&self) -> bool {
+        self.word == MOLECULE
+    }
+
+    /// An arrow atom's part.
+    fn part(&self) -> Part {
+        Part {
+            word: self.word,
+            arguments: self.arguments(),
+            none: self.none,
+        }
+    }
+
+    /// The parts of an arrow atom or a molecule, each with its terms.
+    fn each_part(&self) -> Vec<(Part, &[Term])> {
+        if self.is_arrow() {
+            return vec![(self.part(), &self.terms[1..])];
+        }
+        let mut rest = &self.terms[1..];
+        let each = self.parts.iter().map(|part| {
+            let (terms, behind) = rest.split_at(part.terms());
+            rest = behind;
+            (*part, terms)
+        });
+        each.collect()
+    }
+
+    /// The arrow atoms that it says: of a molecule its object with each part,
+    /// of an arrow itself, of others none.
+    pub fn atoms(&self) -> Vec<Atom> {
+        let atom = |(part, terms): (Part, &[Term])| Atom {
+            none: part.none,
+            ..Atom::new(part.word, [&self.terms[..1], terms].concat())
+        };
+        self.each_part().into_iter().map(atom).collect()
+    }
+
+    /// Edits the arrow atom of a part of a molecule, counted from 0, or of an
+    /// arrow the atom itself.
+    pub fn edit_part(&mut self, place: usize, edit: impl FnOnce(&mut Atom)) {
+        if self.is_arrow() {
+            return edit(self);
+        }
+        let mut atoms = self.atoms();
+        edit(&mut atoms[place]);
+        *self = Atom::molecule(&atoms);
     }
 
     pub fn is_signature(&self) -> bool {
@@ -186,8 +278,13 @@ impl Atom {
         self.terms.len() - 2 - usize::from(!self.none)
     }
 
-    /// The same atom with `none` in place of its term result.
+    /// The same atom with `none` in place of its term result; a molecule with
+    /// all its parts so.
     pub fn emptied(&self) -> Atom {
+        if self.is_molecule() {
+            let atoms: Vec<Atom> = self.atoms().iter().map(Atom::emptied).collect();
+            return Atom::molecule(&atoms);
+        }
         let mut atom = self.clone();
         if atom.can_be_none() {
             atom.terms.pop();
@@ -205,6 +302,7 @@ impl Atom {
             word: self.word,
             terms: self.terms.iter().map(image).collect(),
             none: self.none,
+            parts: self.parts.clone(),
         }
     }
 
@@ -213,24 +311,31 @@ impl Atom {
         if self.is_arrow() {
             self.terms[0].write(out);
             out.push(' ');
-            self.write_part(out);
+            write_part(self.part(), &self.terms[1..], out);
+        } else if self.is_molecule() {
+            self.terms[0].write(out);
+            for (part, terms) in self.each_part() {
+                write!(out, " ({} ", part.word).unwrap();
+                write_part(part, terms, out);
+                out.push(')');
+            }
         } else {
             write_row(&self.terms, out);
         }
         out.push(')');
     }
+}
 
-    /// Writes an arrow atom's part, from the method on.
-    fn write_part(&self, out: &mut String) {
-        let (arguments, result) = self.terms[2..].split_at(self.arguments());
-        self.terms[1].write(out);
-        out.push_str(" (");
-        write_row(arguments, out);
-        out.push_str(") ");
-        write_row(result, out);
-        if self.none {
-            out.push_str("none");
-        }
+/// Writes a part from its method on.
+fn write_part(part: Part, terms: &[Term], out: &mut String) {
+    let (arguments, result) = terms[1..].split_at(part.arguments);
+    terms[0].write(out);
+    out.push_str(" (");
+    write_row(arguments, out);
+    out.push_str(") ");
+    write_row(result, out);
+    if part.none {
+        out.push_str("none");
     }
 }
 
