@@ -64,7 +64,8 @@ unfoldable pub is_covered : ℕ → Item → Item → Bool
 is_covered depth x y = agrees depth x y || is_bare depth x y
 
 -- R4, of parts: "if they are equal, or if Y is X with none in place of a term result": the second covers the first, by a test of items;
--- from their results on, from their arguments on, from their methods on, and as a whole.
+-- from their results on, from their arguments on, and as a whole. A part with a term for its result is covered by its equal alone: where
+-- both have brackets of their own, as a molecule's parts have, the two are compared at one go.
 unfoldable pub is_none : List ℕ → Bool
 is_none bs = stood (skip "none" bs)
 
@@ -74,14 +75,27 @@ result_covered test x y = is_none x.bytes || (not (is_none y.bytes) && test x y)
 unfoldable pub arguments_covered : (Item → Item → Bool) → Item → Item → Bool
 arguments_covered test x y = test x y && further (result_covered test) x y (next x.bytes) (next y.bytes)
 
-unfoldable pub method_covered : (Item → Item → Bool) → Item → Item → Bool
-method_covered test x y = test x y && further (arguments_covered test) x y (next x.bytes) (next y.bytes)
+unfoldable pub is_item : List ℕ → Bool
+is_item bs = stood (skip "(" bs)
+
+unfoldable pub no_result : List ℕ → Bool
+no_result method = stood ((next >> (next >> skip "none")) method)
+
+unfoldable pub whole : PartIn → Bool
+whole p = is_item p.item && not (no_result p.method)
 
 unfoldable pub same_arrow : Arrow → Arrow → Bool
 same_arrow a b = ite (arrow? a b) true false
 
-unfoldable pub part_covered : (Item → Item → Bool) → Item → Item → PartIn → PartIn → Bool
-part_covered test x y p q = same_arrow p.arrow q.arrow && method_covered test (beside x p.method) (beside y q.method)
+unfoldable pub part_covered_by : Bool → (Item → Item → Bool) → Item → Item → PartIn → PartIn → Bool
+part_covered_by equal test x y p q =
+    let m = beside x p.method in
+    let n = beside y q.method in
+    let others = further (arguments_covered test) m n (next p.method) (next q.method) in
+    same_arrow p.arrow q.arrow && (test m n && cond (equal && is_item q.item) (test (beside x p.item) (beside y q.item)) others)
+
+abbrev pub part_covered : (Item → Item → Bool) → Item → Item → PartIn → PartIn → Bool
+part_covered test x y p q = part_covered_by (whole p) test x y p q
 
 -- R24, "each part of X is covered by some part of Y".
 unfoldable pub some_covers : (PartIn → Bool) → List PartIn → Bool

@@ -5,7 +5,7 @@ ghost use Rattle.clauses.specs.Shapes.{next as next_of};
 ghost use Rattle.filling.specs.Items.{item_of, beside};
 ghost use Rattle.clauses.specs.Parts.{shown, all_shown};
 ghost use Rattle.agreement.specs.Agrees.{Finds, agrees, parts_agree, calls_agree, has_none, is_bare, is_covered, is_none};
-ghost use Rattle.agreement.specs.Agrees.{result_covered, arguments_covered, method_covered, part_covered, each_covered, parts_fit, is_fitting};
+ghost use Rattle.agreement.specs.Agrees.{result_covered, arguments_covered, is_item, no_result, whole, part_covered_by, part_covered, each_covered, parts_fit, is_fitting};
 
 use crate::same::Lists;
 use clauses::parts::{PARTS, Part, molecule, object, parts};
@@ -27,6 +27,30 @@ fn none(s: &[u8]) -> bool
     ensures { result ≡ is_none s.now }
 {
     word(s, b"none").is_some()
+}
+
+// Whether an item begins here.
+#[tactic(auto, unfolding(crate::specs::Agrees::is_item, text::specs::Access::stood))]
+fn item(s: &[u8]) -> bool
+    ensures { result ≡ is_item s.now }
+{
+    word(s, b"(").is_some()
+}
+
+// Whether the result of a part, from its method on, is none.
+#[tactic(auto, unfolding(crate::specs::Agrees::no_result, crate::specs::Agrees::is_none, text::specs::Access::stood))]
+fn no_result(method: &[u8]) -> bool
+    ensures { result ≡ no_result method.now }
+{
+    next(method).and_then(next).is_some_and(none)
+}
+
+// A part with brackets of its own and a term for its result, which its equal alone covers.
+#[tactic(auto, unfolding(crate::specs::Agrees::whole))]
+fn whole(part: Part<'_>) -> bool
+    ensures { result ≡ whole (shown part.entry) }
+{
+    item(part.item) && !no_result(part.method)
 }
 
 // Two items, each of a clause that is filled. Terms nest at most `depth` deep.
@@ -130,7 +154,7 @@ impl<'a> Pair<'a> {
         none(self.a.item) || (!none(self.b.item) && self.agree())
     }
 
-    // From the arguments on, and from the methods on: each is the next with one item more, as in `parts` and `calls`.
+    // From the arguments on.
     #[tactic(auto, unfolding(crate::specs::Agrees::arguments_covered))]
     fn arguments_covered(self) -> bool
         ensures { result ≡ arguments_covered (agrees self.entry.depth) (item_of self.entry.a) (item_of self.entry.b) }
@@ -138,19 +162,19 @@ impl<'a> Pair<'a> {
         self.agree() && self.next().is_some_and(Pair::result_covered)
     }
 
-    #[tactic(auto, unfolding(crate::specs::Agrees::method_covered))]
-    fn method_covered(self) -> bool
-        ensures { result ≡ method_covered (agrees self.entry.depth) (item_of self.entry.a) (item_of self.entry.b) }
+    // The second part covers the first, which is compared as a whole or not.
+    #[tactic(auto, unfolding(crate::specs::Agrees::part_covered_by, crate::specs::Agrees::same_arrow))]
+    fn part_covered(self, whole: bool, part: Part<'a>, other: Part<'a>) -> bool
+        ensures { result ≡ part_covered_by whole (agrees self.entry.depth) (item_of self.entry.a) (item_of self.entry.b) (shown part.entry) (shown other.entry) }
     {
-        self.agree() && self.next().is_some_and(Pair::arguments_covered)
-    }
-
-    // The second part covers the first.
-    #[tactic(auto, unfolding(crate::specs::Agrees::part_covered, crate::specs::Agrees::same_arrow))]
-    fn part_covered(self, part: Part<'a>, other: Part<'a>) -> bool
-        ensures { result ≡ part_covered (agrees self.entry.depth) (item_of self.entry.a) (item_of self.entry.b) (shown part.entry) (shown other.entry) }
-    {
-        part.arrow == other.arrow && self.beside(part.method, other.method).method_covered()
+        let methods = self.beside(part.method, other.method);
+        if part.arrow != other.arrow || !methods.agree() {
+            return false;
+        }
+        if whole && item(other.item) {
+            return self.beside(part.item, other.item).agree();
+        }
+        methods.next().is_some_and(Pair::arguments_covered)
     }
 
     // Each of the parts is covered by some of the others.
@@ -159,13 +183,14 @@ impl<'a> Pair<'a> {
     {
         let mut covered = true;
         'parts: for part in parts {
+            let whole = whole(*part);
             let mut n = 0;
             loop {
                 let Some(other) = others.get(n) else {
                     covered = false;
                     break 'parts;
                 };
-                if self.part_covered(*part, *other) {
+                if self.part_covered(whole, *part, *other) {
                     break;
                 }
                 n += 1;

@@ -1,6 +1,7 @@
 -- What is read of a written atom's object and parts.
 use Prim.Native.Nat.{ℕ, zero, suc, ◌≤◌}
 use mathlib.Core.List.{List, [], ◌∷◌}
+use mathlib.Core.Logic.{◌⊎◌, inl, inr}
 use mathlib.Core.Path.{◌≡◌, refl, ap}
 use native.Mathlib.Omega.{arith}
 use lib.ListN.{drop}
@@ -67,18 +68,19 @@ pub no_object : (x : Atom) (rest : List ℕ) → ((o : Term) (ps : Parts) → x 
 unfolding object_of first_or arrow_object
 no_object x rest n = rw (no_molecule_link x rest n, no_arrow_link x rest n)
 
--- A part that was read: its arrow, and its bytes from the method on.
+-- A part that was read: its arrow, its bytes from the method on, and those of a molecule's part from its bracket on.
 pub record Shows (x : PartIn) (p : Part) : Type 0 where
   pub arrow : x.arrow ≡ arrow_of p
   pub rest : List ℕ
   pub method : x.method ≡ put_part p rest
+  pub item : (x.item ≡ []) ⊎ (x.item ≡ put_bracketed p rest)
 
 unfoldable pub ShowsAll : List PartIn → Parts → Type 0
 ShowsAll [] ps = ⊥
 ShowsAll (x ∷ xs) (only p) = Shows x p × (xs ≡ [])
 ShowsAll (x ∷ xs) (also p ps) = Shows x p × ShowsAll xs ps
 
-next_of_part : (p : Part) (rest : List ℕ) → next_part (word " " (put_bracketed p rest)) ≡ got (part_in (arrow_of p) (put_part p rest)) rest
+next_of_part : (p : Part) (rest : List ℕ) → next_part (word " " (put_bracketed p rest)) ≡ got (part_in (arrow_of p) (put_part p rest) (put_bracketed p rest)) rest
 unfolding next_part strip
 next_of_part p rest = rw (arrow_of_part p rest, skip_bracketed p rest)
 
@@ -90,15 +92,15 @@ items_show : (k : ℕ) (ps : Parts) (rest : List ℕ) → count_parts ps ≤ k �
 unfolding count_parts ShowsAll items one_more put_parts
 items_show zero (only p) rest h = absurd (omega arith)
 items_show zero (also p ps) rest h = absurd (omega arith)
-items_show (suc zero) (only p) rest h = rw (next_of_part p (41 ∷ rest)) (record { arrow = refl; rest = 41 ∷ rest; method = refl }, refl)
-items_show (suc (suc k)) (only p) rest h = rw (next_of_part p (41 ∷ rest), no_next rest) (record { arrow = refl; rest = 41 ∷ rest; method = refl }, refl)
+items_show (suc zero) (only p) rest h = rw (next_of_part p (41 ∷ rest)) (record { arrow = refl; rest = 41 ∷ rest; method = refl; item = inr refl }, refl)
+items_show (suc (suc k)) (only p) rest h = rw (next_of_part p (41 ∷ rest), no_next rest) (record { arrow = refl; rest = 41 ∷ rest; method = refl; item = inr refl }, refl)
 items_show (suc k) (also p ps) rest h =
-    rw (next_of_part p (put_parts ps (41 ∷ rest))) (record { arrow = refl; rest = put_parts ps (41 ∷ rest); method = refl }, items_show k ps rest (omega arith))
+    rw (next_of_part p (put_parts ps (41 ∷ rest))) (record { arrow = refl; rest = put_parts ps (41 ∷ rest); method = refl; item = inr refl }, items_show k ps rest (omega arith))
 
 -- The parts of an arrow atom or a molecule.
 pub parts_shown : (o : Term) (ps : Parts) (rest : List ℕ) → count_parts ps ≤ 16 → ShowsAll (parts (put_atom (arrows o ps) rest)) ps
 unfolding parts parts_or arrow_part one_part ShowsAll next strip after
-parts_shown o (only p) rest h = rw (no_molecule_of o p rest, arrow_of_atom o p rest, skip_term o (word " " (put_part p rest))) (record { arrow = refl; rest = rest; method = refl }, refl)
+parts_shown o (only p) rest h = rw (no_molecule_of o p rest, arrow_of_atom o p rest, skip_term o (word " " (put_part p rest))) (record { arrow = refl; rest = rest; method = refl; item = inl refl }, refl)
 parts_shown o (also p ps) rest h = rw (molecule_of o p ps rest, skip_term o (put_parts (also p ps) (41 ∷ rest))) (items_show 16 (also p ps) rest h)
 
 -- Part k, where there is one, and where there is none.
@@ -113,10 +115,10 @@ view_later (nowhere e n) = nowhere e (λ p w. n p (before w))
     before : {k : ℕ} {p q : Part} {ps : Parts} → PartAt (suc k) p (also q ps) → PartAt k p ps
     before (PartAt.there w) = w
 
-first_view : (ps : Parts) (p : Part) (rest : List ℕ) → PartAt 0 p ps → PartView 0 ps (made (arrow_head (put_bracketed p rest)))
+first_view : (ps : Parts) (p : Part) (rest : List ℕ) → PartAt 0 p ps → PartView 0 ps (made (put_bracketed p rest) (arrow_head (put_bracketed p rest)))
 unfolding made
 first_view ps p rest w =
-    there {x = part_in (arrow_of p) (put_part p rest)} (ap made (arrow_of_part p rest)) (record { arrow = refl; rest = rest; method = refl }) w
+    there {x = part_in (arrow_of p) (put_part p rest) (put_bracketed p rest)} (ap (made (put_bracketed p rest)) (arrow_of_part p rest)) (record { arrow = refl; rest = rest; method = refl; item = inr refl }) w
 
 item_view : (k : ℕ) (ps : Parts) (rest : List ℕ) → PartView k ps (made_at (from_item put_bracketed (drop k (list_of_parts ps)) rest))
 unfolding list_of_parts from_item made_at made

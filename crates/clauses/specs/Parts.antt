@@ -27,22 +27,23 @@ arrow_object bs = and_then (arrow_head bs) (λ _. return tt)
 unfoldable pub object_of : Reader (Unit {0})
 object_of bs = first_or (molecule bs) (arrow_object bs)
 
--- A part: its arrow, and what stands from its method on.
+-- A part: its arrow, what stands from its method on, and what stands from its bracket on. An arrow atom's part has no bracket of its own.
 pub record PartIn : Type 0 where
   pub arrow : Arrow
   pub method : List ℕ
+  pub item : List ℕ
 
-abbrev pub part_in : Arrow → List ℕ → PartIn
-part_in a ms = record { arrow = a; method = ms }
+abbrev pub part_in : Arrow → List ℕ → List ℕ → PartIn
+part_in a ms bs = record { arrow = a; method = ms; item = bs }
 
 -- T21: the next PART, `(ARROW M (T ...) R)`, after a space, and the bytes after it.
 unfoldable pub next_part : Reader PartIn
-next_part = skip " " >> (λ bs. and_then (arrow_head bs) (λ a ms. and_then (skip_item bs) (λ _ rest. got (part_in a ms) rest)))
+next_part = skip " " >> (λ bs. and_then (arrow_head bs) (λ a ms. and_then (skip_item bs) (λ _ rest. got (part_in a ms bs) rest)))
 
 -- The one part of an arrow atom, from its object on.
 unfoldable pub one_part : Arrow → Parsed (Unit {0}) → List PartIn
 one_part a bad = []
-one_part a (got u ms) = part_in a ms ∷ []
+one_part a (got u ms) = part_in a ms [] ∷ []
 
 unfoldable pub arrow_part : Parsed Arrow → List PartIn
 arrow_part bad = []
@@ -57,20 +58,20 @@ unfoldable pub parts : List ℕ → List PartIn
 parts bs = parts_or (molecule bs) (arrow_part (arrow_head bs))
 
 -- R26, "a part K, counted from 0": part k of a molecule, from its object on.
-unfoldable pub made : Parsed Arrow → Option PartIn
-made bad = None
-made (got a ms) = Some (part_in a ms)
+unfoldable pub made : List ℕ → Parsed Arrow → Option PartIn
+made bs bad = None
+made bs (got a ms) = Some (part_in a ms bs)
 
 unfoldable pub made_at : Parsed (Unit {0}) → Option PartIn
 made_at bad = None
-made_at (got u bs) = made (arrow_head bs)
+made_at (got u bs) = made bs (arrow_head bs)
 
 unfoldable pub part_at : ℕ → List ℕ → Option PartIn
 part_at k object = made_at ((skip_item >> to_item k) object)
 
 -- The code's parts.
 abbrev pub shown : Part → PartIn
-shown p = part_in p.arrow p.method.now
+shown p = part_in p.arrow p.method.now p.item.now
 
 abbrev pub all_shown : List Part → List PartIn
 all_shown ps = map shown ps

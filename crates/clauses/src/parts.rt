@@ -15,17 +15,19 @@ use scan::words::word;
 pub const PARTS: usize = 16;
 
 // A part of a molecule, or what an arrow atom says of its object: the arrow, and the bytes from the method on. The object stands between them
-// in an arrow atom, and from the method on the bytes are the same in both.
+// in an arrow atom, and from the method on the bytes are the same in both. A molecule's part is an item: the bytes from its bracket on.
 #[derive(Clone, Copy, Debug, PartialEq, Eq)]
 pub struct Part<'a> {
     pub arrow: Arrow,
     pub method: &'a [u8],
+    pub item: &'a [u8],
 }
 
 impl Part<'_> {
     pub const NONE: Part<'static> = Part {
         arrow: Arrow::Sv,
         method: &[],
+        item: &[],
     };
 }
 
@@ -66,9 +68,16 @@ pub fn object(atom: &[u8]) -> Option<&[u8]>
 fn next_part(s: &[u8]) -> Option<(Part<'_>, &[u8])>
     ensures { seen result ≡ next_part s.now }
 {
-    let bracketed = word(s, b" ")?;
-    let (arrow, method) = arrow(bracketed)?;
-    Some((Part { arrow, method }, skip(bracketed)?))
+    let item = word(s, b" ")?;
+    let (arrow, method) = arrow(item)?;
+    Some((
+        Part {
+            arrow,
+            method,
+            item,
+        },
+        skip(item)?,
+    ))
 }
 
 // The parts after a space each, put into `found`, which has room for all that a molecule may have.
@@ -102,7 +111,11 @@ pub fn parts<'a, 'f>(atom: &'a [u8], found: &'f mut [Part<'a>; PARTS]) -> &'f [P
     let Some(method) = next(object) else {
         return &[];
     };
-    found[0] = Part { arrow, method };
+    found[0] = Part {
+        arrow,
+        method,
+        item: &[],
+    };
     &found[..1]
 }
 
@@ -112,6 +125,11 @@ pub fn part_at(object: &[u8], k: usize) -> Option<Part<'_>>
     ensures value { maybe_shown result ≡ part_at k object.now }
     ensures object_unchanged { object.exit.now ≡ object.entry.now }
 {
-    let (arrow, method) = arrow(item(skip(object)?, k)?)?;
-    Some(Part { arrow, method })
+    let item = item(skip(object)?, k)?;
+    let (arrow, method) = arrow(item)?;
+    Some(Part {
+        arrow,
+        method,
+        item,
+    })
 }

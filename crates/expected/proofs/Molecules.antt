@@ -19,21 +19,20 @@ use Rattle.text.specs.Read.{Parsed, bad, got, Reader, and_then, ◌>>=◌, ◌>>
 use Rattle.text.specs.Access.{stood}
 use Rattle.text.proofs.Tests.{T_and}
 use Rattle.text.proofs.Plain.{Plain, in_front, term_plain, arguments_plain}
-use Rattle.text.proofs.Nesting.{skip_term, skip_arguments}
 use Rattle.text.proofs.Trees.{join_width}
-use Rattle.clauses.specs.Shapes.{next}
 use Rattle.clauses.specs.Parts.{PartIn, object_of, parts}
 use Rattle.clauses.proofs.Molecules.{object_stands, from_object, Shows, ShowsAll, parts_shown}
+use Rattle.filling.specs.Filled.{matches}
 use Rattle.filling.specs.Items.{Item, beside}
 use Rattle.filling.proofs.Walk.{strip_append}
-use Rattle.expected.specs.Claims.{Expected, spaced, result_claimed, said_claimed, arrow_claimed, part_claimed, parts_claimed, object_claimed, merged, projected}
+use Rattle.expected.specs.Claims.{Expected, in_claim, item_claimed, spaced, result_claimed, said_claimed, arrow_claimed, part_claimed, parts_claimed, object_claimed, merged, projected}
 
--- What is expected of a term or of arguments of a clause that σ fills is their filled bytes.
+-- What is expected of a term or of arguments of a clause that σ fills is their filled bytes, and the bytes after them are left of the clause.
 pub record Reads (claimed : Expected) (x : Item) (σ : Substitution) (d w : ℕ) : Type 0 where
   pub term : (t : Term) (rest : List ℕ) → T (formed_term d t) → term_width t ≤ w → (bs : List ℕ) →
-      claimed (beside x (put_term t rest)) bs ≡ strip (put_term (fill σ t) []) bs
+      claimed (beside x (put_term t rest)) bs ≡ matches (got (put_term (fill σ t) []) rest) bs
   pub arguments : (ts : Terms) (rest : List ℕ) → T (formed_terms d ts) → terms_width ts ≤ w → (bs : List ℕ) →
-      claimed (beside x (put_arguments ts rest)) bs ≡ strip (put_arguments (fills σ ts) []) bs
+      claimed (beside x (put_arguments ts rest)) bs ≡ matches (got (put_arguments (fills σ ts) []) rest) bs
 
 -- What is read is what is put, whatever is read behind it.
 pub record Expects (put : Writer) (read : Reader (Unit {0})) : Type 0 where
@@ -66,27 +65,31 @@ infixr 60 ◌⨾◌
     go rest bad = refl
     go rest (got u cs) = b.before rest cs
 
--- An item and a space, and what is read from the item after it on.
-spaced_reads : (claimed : Expected) (x : Item) (f : Item → Reader (Unit {0})) {put more : Writer} {cs : List ℕ} → next x.bytes ≡ got tt cs → Expects put (claimed x) → Expects more (f (beside x cs)) → Expects (put ∘ word " " ∘ more) (spaced claimed x >>= f)
-unfolding spaced
-spaced_reads claimed x f {cs} e a b =
-    record { before = λ rest bs. ap (λ p. and_then p (λ _. strip rest)) (go (claimed x bs)) ∙ (a ⨾ said " " ⨾ b).before rest bs }
+-- An item is expected as it is put.
+item_reads : (claimed : Expected) (x : Item) {put : Writer} (more : List ℕ) → Plain put → ((bs : List ℕ) → claimed x bs ≡ matches (got (put []) more) bs) → Expects put (item_claimed claimed x)
+unfolding item_claimed in_claim matches
+item_reads claimed x {put} more p e = filled p (λ bs. ap in_claim (e bs) ∙ go (strip (put []) bs))
   where
-    onward : (p : Parsed (Unit {0})) → and_then (and_then {B = Item} p (λ _ left. got (beside x cs) left)) f ≡ and_then p (λ _. f (beside x cs))
+    go : (q : Parsed (Unit {0})) → in_claim (and_then q (λ _ left. got left more)) ≡ q
+    go bad = refl
+    go (got u left) = refl
+
+-- An item and a space, and what is read from the item after it on.
+spaced_reads : (claimed : Expected) (x : Item) (f : Item → Reader (Unit {0})) {put more : Writer} {cs : List ℕ} →
+    Plain put → ((bs : List ℕ) → claimed x bs ≡ matches (got (put []) (word " " cs)) bs) → Expects more (f (beside x cs)) → Expects (put ∘ word " " ∘ more) (spaced claimed x >>= f)
+unfolding spaced matches strip
+spaced_reads claimed x f {put} {cs} p e b =
+    record { before = λ rest bs. rw (e bs) (ap (λ q. and_then q (λ _. strip rest)) (go (strip (put []) bs)) ∙ (filled p (λ bs. refl) ⨾ said " " ⨾ b).before rest bs) }
+  where
+    onward : (q : Parsed (Unit {0})) → and_then (and_then {B = Item} q (λ _ left. got (beside x cs) left)) f ≡ and_then q (λ _. f (beside x cs))
     onward bad = refl
     onward (got u left) = refl
 
-    go : (p : Parsed (Unit {0})) → and_then (and_then {B = Item} p (λ _ rest. and_then (next x.bytes) (λ _ bs. and_then (skip " " rest) (λ _ left. got (beside x bs) left)))) f ≡ and_then p (λ _ rest. and_then (skip " " rest) (λ _. f (beside x cs)))
+    go : (q : Parsed (Unit {0})) →
+        and_then (and_then {B = Item} (and_then q (λ _ left. got left (word " " cs))) (λ left more. and_then (skip " " more) (λ _ bs. and_then (skip " " left) (λ _ left. got (beside x bs) left)))) f ≡
+        and_then q (λ _ rest. and_then (skip " " rest) (λ _. f (beside x cs)))
     go bad = refl
-    go (got u rest) = rw e (onward (skip " " rest))
-
-next_term : (t : Term) (rest : List ℕ) → next (put_term t (word " " rest)) ≡ got tt rest
-unfolding next strip
-next_term t rest = rw (skip_term t (32 ∷ rest))
-
-next_arguments : (ts : Terms) (rest : List ℕ) → next (put_arguments ts (word " " rest)) ≡ got tt rest
-unfolding next strip
-next_arguments ts rest = rw (skip_arguments ts (32 ∷ rest))
+    go (got u left) = onward (skip " " left)
 
 -- T15: no term begins as the word none.
 not_none : (t : Term) (rest : List ℕ) → skip "none" (put_term t rest) ≡ bad
@@ -95,8 +98,8 @@ not_none (var n) rest = refl
 not_none (app n ts) rest = refl
 
 module _ {claimed : Expected} {x : Item} {σ : Substitution} {d w : ℕ} (r : Reads claimed x σ d w) where
-  term_reads : (t : Term) (rest : List ℕ) → T (formed_term d t) → term_width t ≤ w → Expects (put_term (fill σ t)) (claimed (beside x (put_term t rest)))
-  term_reads t rest f h = filled (term_plain (fill σ t)) (r.term t rest f h)
+  term_reads : (t : Term) (rest : List ℕ) → T (formed_term d t) → term_width t ≤ w → Expects (put_term (fill σ t)) (item_claimed claimed (beside x (put_term t rest)))
+  term_reads t rest f h = item_reads claimed _ rest (term_plain (fill σ t)) (r.term t rest f h)
 
   result_reads : (a : Arrow) (v : Result) (rest : List ℕ) → T (formed_result d a v) → terms_width (result_terms v) ≤ w →
       Expects (put_result (fill_result σ v)) (result_claimed claimed (beside x (put_result v rest)))
@@ -110,8 +113,8 @@ module _ {claimed : Expected} {x : Item} {σ : Substitution} {d w : ℕ} (r : Re
   said_reads (part a m ts v) rest f h =
       let ((g, k), i) = simp T_and at f in
       let j = join_width ts (result_terms v) in
-      spaced_reads claimed _ _ (next_term m _) (term_reads m _ g (omega arith))
-      (spaced_reads claimed _ _ (next_arguments ts _) (filled (arguments_plain (fills σ ts)) (r.arguments ts _ k (omega arith))) (result_reads a v _ i (omega arith) ⨾ said ")"))
+      spaced_reads claimed _ _ (term_plain (fill σ m)) (r.term m _ g (omega arith))
+      (spaced_reads claimed _ _ (arguments_plain (fills σ ts)) (r.arguments ts _ k (omega arith)) (result_reads a v _ i (omega arith) ⨾ said ")"))
 
   -- T21: a part, the parts.
   pub part_reads : {y : PartIn} (p : Part) → Shows y p → T (formed_part d p) → terms_width (part_terms p) ≤ w → Expects (word " " ∘ put_bracketed (fill_part σ p)) (part_claimed claimed x y)
@@ -137,7 +140,7 @@ module _ {claimed : Expected} {x : Item} {σ : Substitution} {d w : ℕ} (r : Re
       projected claimed x y bs ≡ strip (put_literals (plus (arrows (fill σ o) (only (fill_part σ q))) ∷ []) []) bs
   unfolding projected arrow_claimed put_literals put_literal put_atom fill_part
   projected_reads o rest (part a m ts v) e f h s g k bs =
-      let object : Expects (put_term (fill σ o)) (claimed x) = subst (λ (b : List ℕ). Expects (put_term (fill σ o)) (claimed (beside x b))) (sym e) (term_reads o rest f h) in
+      let object : Expects (put_term (fill σ o)) (item_claimed claimed x) = subst (λ (b : List ℕ). Expects (put_term (fill σ o)) (item_claimed claimed (beside x b))) (sym e) (term_reads o rest f h) in
       rw (s.arrow, s.method) (alone (said " (+ (" ⨾ said (arrow_word a) ⨾ said " " ⨾ object ⨾ said " " ⨾ said_reads (part a m ts v) s.rest g k ⨾ said ")") bs)
 
 -- R25: a joined list of parts is a molecule's.

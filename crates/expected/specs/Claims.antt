@@ -8,7 +8,7 @@ use Rattle.text.specs.Words.{bytes, arrow_word}
 use Rattle.text.specs.Read.{Parsed, bad, got, Reader, and_then, ◌>>=◌, ◌>>◌, return, strip, skip}
 use Rattle.text.specs.Access.{pass_item, stood}
 use Rattle.clauses.specs.Entries.{after}
-use Rattle.clauses.specs.Shapes.{literals, next}
+use Rattle.clauses.specs.Shapes.{literals}
 use Rattle.clauses.specs.Parts.{PartIn, object_of, parts}
 use Rattle.filling.specs.Filled.{fill_item, matches, item_depth, hole_depth}
 use Rattle.filling.specs.Items.{Item, item_of, beside, listed, with_hole, filled}
@@ -28,13 +28,23 @@ unfoldable pub in_claim : Parsed (List ℕ) → Parsed (Unit {0})
 in_claim bad = bad
 in_claim (got left rest) = got tt left
 
+-- What is expected of an item, by which the parts of molecules are expected: what is left of the claim after it, and of the item's clause.
+abbrev pub Expected : Type 0
+Expected = Item → List ℕ → Parsed (List ℕ)
+
 -- The item, filled.
-unfoldable pub item_claimed : ℕ → Item → Reader (Unit {0})
-item_claimed depth x rest = in_claim (matches (filled x (item_depth depth)) rest)
+unfoldable pub item_expected : ℕ → Expected
+item_expected depth x rest = matches (filled x (item_depth depth)) rest
+
+-- An item, whatever stands after it in its clause.
+unfoldable pub item_claimed : Expected → Item → Reader (Unit {0})
+item_claimed claimed x rest = in_claim (claimed x rest)
 
 -- A new literal of two terms: its head with the space in front, two items with a space between them, and two closing brackets.
 unfoldable pub linked : ℕ → List ℕ → Item → Item → Reader (Unit {0})
-linked depth head x y = strip head >> (item_claimed depth x >> (skip " " >> (item_claimed depth y >> skip "))")))
+linked depth head x y =
+    let claimed = item_claimed (item_expected depth) in
+    strip head >> (claimed x >> (skip " " >> (claimed y >> skip "))")))
 
 -- R8: "+ sub(T,T)", T what variable 0 becomes. R12: "+ eq(P,Q)"; R18: "+ eq(R,R')".
 unfoldable pub reflexive : ℕ → Option (List (List ℕ)) → Reader (Unit {0})
@@ -45,20 +55,18 @@ reflexive depth es =
 unfoldable pub equated : ℕ → Item → Item → Reader (Unit {0})
 equated depth x y = linked depth (bytes " (+ (eq ") x y
 
--- What is expected of an item, by which the parts of molecules are expected.
-abbrev pub Expected : Type 0
-Expected = Item → Reader (Unit {0})
-
--- The item, and a space: the item that stands after it in its clause.
+-- The item, and a space after it in its clause and in the claim: the item that stands next in its clause.
 unfoldable pub spaced : Expected → Item → Reader Item
-spaced claimed x = claimed x >> (λ rest. and_then (next x.bytes) (λ _ bs. and_then (skip " " rest) (λ _ left. got (beside x bs) left)))
+spaced claimed x rest =
+    let onward = λ (left more : List ℕ). and_then (skip " " more) (λ _ bs. and_then (skip " " left) (λ _ left. got (beside x bs) left)) in
+    and_then (claimed x rest) onward
 
 -- T15: a result, or the word none.
-unfoldable pub result_claimed : Expected → Expected
-result_claimed claimed x = cond (stood (skip "none" x.bytes)) (skip "none") (claimed x)
+unfoldable pub result_claimed : Expected → Item → Reader (Unit {0})
+result_claimed claimed x = cond (stood (skip "none" x.bytes)) (skip "none") (item_claimed claimed x)
 
 -- T13: "M (T ...) R)", a part from its method on.
-unfoldable pub said_claimed : Expected → Expected
+unfoldable pub said_claimed : Expected → Item → Reader (Unit {0})
 said_claimed claimed x = spaced claimed x >>= (λ y. spaced claimed y >>= (λ z. result_claimed claimed z >> skip ")"))
 
 -- T14: the word of an arrow.
@@ -76,7 +84,7 @@ parts_claimed claimed x (p ∷ ps) = part_claimed claimed x p >> parts_claimed c
 -- R25: "+ the molecule with object P, A's parts, then B's", of the two atoms, each expected in its own way.
 unfoldable pub object_claimed : Expected → Item → Parsed (Unit {0}) → Reader (Unit {0})
 object_claimed claimed x bad rest = bad
-object_claimed claimed x (got u bs) rest = claimed (beside x bs) rest
+object_claimed claimed x (got u bs) rest = item_claimed claimed (beside x bs) rest
 
 unfoldable pub merged : Expected → Expected → Item → Item → Reader (Unit {0})
 merged claimed other x y =
@@ -91,7 +99,7 @@ unfoldable pub projected : Expected → Item → PartIn → Reader (Unit {0})
 projected claimed x p =
     skip " (+ ("
     >> (arrow_claimed p.arrow
-    >> (skip " " >> (claimed x >> (skip " " >> (said_claimed claimed (beside x p.method) >> skip ")")))))
+    >> (skip " " >> (item_claimed claimed x >> (skip " " >> (said_claimed claimed (beside x p.method) >> skip ")")))))
 
 -- After a space, the literal filled, with an item of another clause, filled, in place of the one that begins `hole` bytes before the end.
 unfoldable pub rewritten : ℕ → Item → ℕ → Item → Reader (Unit {0})
@@ -101,8 +109,7 @@ rewritten depth x hole y =
 -- The first of the literals that stand after a space each, filled: what is left of the claim, and of the literals.
 unfoldable pub kept : ℕ → Item → List ℕ → Parsed (List ℕ)
 kept depth x rest =
-    let compare = λ (bs left : List ℕ). matches (filled (beside x bs) (item_depth depth)) left in
-    and_then (skip " " x.bytes) (λ _ bs. and_then (skip " " rest) (λ _ left. compare bs left))
+    and_then (skip " " x.bytes) (λ _ bs. and_then (skip " " rest) (λ _ left. item_expected depth (beside x bs) left))
 
 -- The k literals from literal n on without the dropped one, each after a space. One that is dropped and the last is not looked at.
 unfoldable pub others_from : ℕ → ℕ → ℕ → ℕ → Item → Reader (Unit {0})

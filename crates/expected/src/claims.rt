@@ -6,13 +6,12 @@ ghost use Rattle.text.specs.Answers.{passed};
 ghost use Rattle.clauses.specs.Shapes.{literals};
 ghost use Rattle.filling.specs.Items.{item_of, entries_of, compared};
 ghost use Rattle.clauses.specs.Parts.{shown, all_shown};
-ghost use Rattle.expected.specs.Claims.{claim_ends, item_claimed, linked, reflexive, equated, rewritten, kept, others};
+ghost use Rattle.expected.specs.Claims.{claim_ends, item_expected, item_claimed, linked, reflexive, equated, rewritten, kept, others};
 ghost use Rattle.expected.specs.Claims.{spaced, result_claimed, said_claimed, arrow_claimed, part_claimed, parts_claimed, object_claimed, merged, projected, went_on};
 ghost use Rattle.clauses.specs.Parts.{object_of};
 
 use clauses::items::pass;
 use clauses::parts::{PARTS, Part, object, parts};
-use clauses::shapes::next;
 use filling::compare::{Filled, Filling, Replaced, expect, hole_depth, item_depth, stands};
 use logic::Arrow;
 use scan::words::word;
@@ -35,16 +34,16 @@ pub fn ends(rest: &[u8]) -> bool
 }
 
 // The item, filled.
-#[tactic(auto, unfolding(crate::specs::Claims::item_claimed, crate::specs::Claims::in_claim))]
+#[tactic(auto, unfolding(crate::specs::Claims::item_claimed, crate::specs::Claims::item_expected, crate::specs::Claims::in_claim))]
 fn filled<'r>(depth: u8, x: Filled<'_>, rest: &'r [u8]) -> Option<&'r [u8]>
-    ensures { passed result ≡ item_claimed depth (item_of x.entry) rest.now }
+    ensures { passed result ≡ item_claimed (item_expected depth) (item_of x.entry) rest.now }
 {
     let (_, left) = stands(x, item_depth(depth), rest)?;
     Some(left)
 }
 
 // The first of a clause's literals that stand after a space each: what is left of them, and of the claim.
-#[tactic(auto, unfolding(crate::specs::Claims::kept))]
+#[tactic(auto, unfolding(crate::specs::Claims::kept, crate::specs::Claims::item_expected))]
 fn first_kept<'a, 'r>(
     depth: u8,
     literals: Filled<'a>,
@@ -163,20 +162,21 @@ fn arrow_word(arrow: Arrow, rest: &[u8]) -> Option<&[u8]>
     }
 }
 
-// An item, filled, and a space: the item that stands after it in its clause, and what is left.
-#[tactic(auto, unfolding(crate::specs::Claims::spaced))]
+// An item, filled, and a space after it in its clause and in the claim: the item that stands next in its clause, and what is left. Where the
+// item ends is known when it was compared.
+#[tactic(auto, unfolding(crate::specs::Claims::spaced, crate::specs::Claims::item_expected))]
 fn spaced<'a, 'r>(depth: u8, x: Filled<'a>, rest: &'r [u8]) -> Option<(Filled<'a>, &'r [u8])>
-    ensures { went_on result ≡ spaced (item_claimed depth) (item_of x.entry) rest.now }
+    ensures { went_on result ≡ spaced (item_expected depth) (item_of x.entry) rest.now }
 {
-    let left = filled(depth, x, rest)?;
-    let after = next(x.item)?;
+    let (more, left) = stands(x, item_depth(depth), rest)?;
+    let after = word(more, b" ")?;
     Some((x.beside(after), word(left, b" ")?))
 }
 
 // A result, filled, or the word none.
 #[tactic(auto, unfolding(crate::specs::Claims::result_claimed, text::specs::Access::stood))]
 fn result<'r>(depth: u8, x: Filled<'_>, rest: &'r [u8]) -> Option<&'r [u8]>
-    ensures { passed result ≡ result_claimed (item_claimed depth) (item_of x.entry) rest.now }
+    ensures { passed result ≡ result_claimed (item_expected depth) (item_of x.entry) rest.now }
 {
     match word(x.item, b"none") {
         Some(_) => word(rest, b"none"),
@@ -187,7 +187,7 @@ fn result<'r>(depth: u8, x: Filled<'_>, rest: &'r [u8]) -> Option<&'r [u8]>
 // M (T ...) R), a part from its method on, filled.
 #[tactic(auto, unfolding(crate::specs::Claims::said_claimed))]
 fn said<'r>(depth: u8, method: Filled<'_>, rest: &'r [u8]) -> Option<&'r [u8]>
-    ensures { passed result ≡ said_claimed (item_claimed depth) (item_of method.entry) rest.now }
+    ensures { passed result ≡ said_claimed (item_expected depth) (item_of method.entry) rest.now }
 {
     let (arguments, left) = spaced(depth, method, rest)?;
     let (end, left) = spaced(depth, arguments, left)?;
@@ -197,7 +197,7 @@ fn said<'r>(depth: u8, method: Filled<'_>, rest: &'r [u8]) -> Option<&'r [u8]>
 // A part of a molecule after a space, filled. The item is any of its clause.
 #[tactic(auto, unfolding(crate::specs::Claims::part_claimed))]
 fn part<'r>(depth: u8, of: Filled<'_>, part: Part<'_>, rest: &'r [u8]) -> Option<&'r [u8]>
-    ensures { passed result ≡ part_claimed (item_claimed depth) (item_of of.entry) (shown part.entry) rest.now }
+    ensures { passed result ≡ part_claimed (item_expected depth) (item_of of.entry) (shown part.entry) rest.now }
 {
     let left = arrow_word(part.arrow, word(rest, b" (")?)?;
     said(depth, of.beside(part.method), word(left, b" ")?)
@@ -205,7 +205,7 @@ fn part<'r>(depth: u8, of: Filled<'_>, part: Part<'_>, rest: &'r [u8]) -> Option
 
 // The parts of a molecule, each after a space, filled. The item is any of their clause.
 fn all_parts<'r>(depth: u8, of: Filled<'_>, parts: &[Part<'_>], rest: &'r [u8]) -> Option<&'r [u8]>
-    ensures { passed result ≡ parts_claimed (item_claimed depth) (item_of of.entry) (all_shown parts.entry.now) rest.now }
+    ensures { passed result ≡ parts_claimed (item_expected depth) (item_of of.entry) (all_shown parts.entry.now) rest.now }
 {
     let mut left = rest;
     for shown in parts {
@@ -217,7 +217,7 @@ fn all_parts<'r>(depth: u8, of: Filled<'_>, parts: &[Part<'_>], rest: &'r [u8]) 
 // The object of an arrow atom or a molecule, filled.
 #[tactic(auto, unfolding(crate::specs::Claims::object_claimed))]
 fn said_object<'r>(depth: u8, atom: Filled<'_>, rest: &'r [u8]) -> Option<&'r [u8]>
-    ensures { passed result ≡ object_claimed (item_claimed depth) (item_of atom.entry) (object_of (item_of atom.entry).bytes) rest.now }
+    ensures { passed result ≡ object_claimed (item_expected depth) (item_of atom.entry) (object_of (item_of atom.entry).bytes) rest.now }
 {
     filled(depth, atom.beside(object(atom.item)?), rest)
 }
@@ -230,7 +230,7 @@ pub fn merged<'r>(
     other: Filled<'_>,
     rest: &'r [u8],
 ) -> Option<&'r [u8]>
-    ensures value { passed result ≡ merged (item_claimed depth) (item_claimed depth) (item_of atom.entry) (item_of other.entry) rest.now }
+    ensures value { passed result ≡ merged (item_expected depth) (item_expected depth) (item_of atom.entry) (item_of other.entry) rest.now }
     ensures atom_unchanged { (item_of atom.exit ≡ item_of atom.entry) × (item_of other.exit ≡ item_of other.entry) }
     ensures rest_unchanged { rest.exit.now ≡ rest.entry.now }
 {
@@ -250,7 +250,7 @@ pub fn projected<'r>(
     part: Part<'_>,
     rest: &'r [u8],
 ) -> Option<&'r [u8]>
-    ensures value { passed result ≡ projected (item_claimed depth) (item_of object.entry) (shown part.entry) rest.now }
+    ensures value { passed result ≡ projected (item_expected depth) (item_of object.entry) (shown part.entry) rest.now }
     ensures object_unchanged { (item_of object.exit ≡ item_of object.entry) × (shown part.exit ≡ shown part.entry) }
     ensures rest_unchanged { rest.exit.now ≡ rest.entry.now }
 {

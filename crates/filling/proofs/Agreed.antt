@@ -8,23 +8,23 @@ use native.Mathlib.Omega.{arith}
 use borrow.Author.Tests.{le-leb, lt-leb}
 use lib.Dec.{T}
 use lib.ListN.{length, drop}
-use Rattle.logic.specs.Syntax.{Term, Terms, Atom}
-use Rattle.logic.specs.Terms.{terms_of}
+use Rattle.logic.specs.Syntax.{Term, Terms, Part, only, Atom, arrows}
+use Rattle.logic.specs.Terms.{part_terms, terms_of}
 use Rattle.logic.specs.Each.{atom_over, term_width, terms_width}
-use Rattle.logic.specs.Fill.{Substitution, fill, fills, fill_atom}
-use Rattle.text.specs.Write.{put_term, put_arguments, put_atom}
-use Rattle.text.specs.Form.{formed_number, numbered, numbereds, formed_term, formed_terms, formed_atom}
+use Rattle.logic.specs.Fill.{Substitution, fill, fills, fill_part, fill_atom}
+use Rattle.text.specs.Write.{put_term, put_arguments, put_bracketed, put_atom}
+use Rattle.text.specs.Form.{formed_number, numbered, numbereds, formed_term, formed_terms, formed_part, formed_atom}
 use Rattle.text.specs.Read.{Parsed, bad, got}
 use Rattle.text.proofs.Unique.{term_unique, arguments_unique}
 use Rattle.text.proofs.Deep.{formed_symbol}
-use Rattle.text.proofs.Trees.{Tree, put_tree, Clean, Within, Below, tree_term, tree_arguments, tree_atom, put_term_lem, put_arguments_lem, put_atom_lem, clean_term, clean_arguments, clean_atom, within_term, within_arguments, within_atom}
+use Rattle.text.proofs.Trees.{Tree, put_tree, Clean, Within, Below, tree_term, tree_arguments, tree_bracketed, tree_atom, put_term_lem, put_arguments_lem, put_bracketed_lem, put_atom_lem, clean_term, clean_arguments, clean_bracketed, clean_atom, within_term, within_arguments, within_bracketed, within_atom}
 use Rattle.filling.specs.Filled.{same_item, item_depth}
 use Rattle.filling.proofs.Places.{plain, ground, ends_of}
 use Rattle.filling.proofs.Agree.{agree_at}
 use Rattle.filling.proofs.Alike.{Fills, term_fills, same_tree, same_only}
-use Rattle.filling.proofs.Filling.{fill_tree, trees, tree_term_lem, tree_arguments_lem, tree_atom_lem}
+use Rattle.filling.proofs.Filling.{fill_tree, trees, tree_term_lem, tree_arguments_lem, tree_bracketed_lem, tree_atom_lem}
 use Rattle.filling.proofs.Grounds.{Entries, no_width, ground_tree, stands_there, stands_only}
-use Rattle.filling.proofs.NumberedFill.{atom_bytes}
+use Rattle.filling.proofs.NumberedFill.{bracketed_bytes, atom_bytes}
 use Rattle.clauses.proofs.Places.{within}
 use Rattle.clauses.proofs.Placing.{Stands}
 
@@ -78,7 +78,7 @@ module _ (depth : ℕ) (line starts others : List ℕ) (σ τ : Substitution) (v
           ([], [], same_only first_fills second_fills t u (item_depth depth) ct cu wt wu r s (sym both_sides ∙ k.2))
 
 module _ (depth : ℕ) (p q line starts others : List ℕ) (σ τ : Substitution) (v w : ℕ) (entry : Entries line starts σ v) (entry' : Entries line others τ w) where
-  -- Two terms, two lists of arguments, two atoms.
+  -- Two terms, two lists of arguments, two parts of molecules, two atoms.
   pub terms_agree : {x y : ℕ} (t u : Term) (r s : List ℕ) → Stands p x (put_term t r) → Stands q y (put_term u s) → T (formed_term (item_depth depth) t) → T (formed_term (item_depth depth) u) → term_width t ≤ v → term_width u ≤ w →
       T (numbered (fill σ t)) → T (numbered (fill τ u)) → T (agree_at depth p x line starts q y others) ↔ (fill σ t ≡ fill τ u)
   terms_agree {x} {y} t u r s a b ft fu ht hu nt nu =
@@ -103,6 +103,19 @@ module _ (depth : ℕ) (p q line starts others : List ℕ) (σ τ : Substitution
         λ h. let k = agree_from depth line starts others σ τ v w entry entry' (tree_arguments t) (tree_arguments u) r s i j (clean_arguments t) cu wt wu h in
             (arguments_unique (fills σ t) (fills τ u) k.0 k.1 nt nu (rw (put_arguments_lem (fills σ t) _, put_arguments_lem (fills τ u) _, ← tree_arguments_lem σ t, ← tree_arguments_lem τ u) k.2)).0,
         λ e. agree_to depth line starts others σ τ v w entry entry' (tree_arguments t) (tree_arguments u) r s i j (clean_arguments t) cu wt wu (tree_arguments_lem σ t ∙ ap tree_arguments e ∙ sym (tree_arguments_lem τ u)),
+      )
+
+  pub bracketed_agree : {x y : ℕ} (o o' : Term) (a b : Part) (r s : List ℕ) → Stands p x (put_bracketed a r) → Stands q y (put_bracketed b s) → T (formed_part (suc (suc depth)) a) → T (formed_part (suc (suc depth)) b) → terms_width (part_terms a) ≤ v → terms_width (part_terms b) ≤ w →
+      T (atom_over formed_number formed_symbol (arrows o (only (fill_part σ a)))) → T (atom_over formed_number formed_symbol (arrows o' (only (fill_part τ b)))) → T (agree_at depth p x line starts q y others) ↔ (fill_part σ a ≡ fill_part τ b)
+  bracketed_agree {x} {y} o o' t u r s a b ft fu ht hu nt nu =
+      let i : Stands p x (put_tree (tree_bracketed t) r) = rw put_bracketed_lem at a in
+      let j : Stands q y (put_tree (tree_bracketed u) s) = rw put_bracketed_lem at b in
+      let cu = clean_bracketed u in
+      let wt = within_bracketed v (suc (suc depth)) t ft ht in
+      let wu = within_bracketed w (suc (suc depth)) u fu hu in (
+        λ h. let k = agree_from depth line starts others σ τ v w entry entry' (tree_bracketed t) (tree_bracketed u) r s i j (clean_bracketed t) cu wt wu h in
+            bracketed_bytes o o' (fill_part σ t) (fill_part τ u) k.0 k.1 nt nu (rw (put_bracketed_lem (fill_part σ t) _, put_bracketed_lem (fill_part τ u) _, ← tree_bracketed_lem σ t, ← tree_bracketed_lem τ u) k.2),
+        λ e. agree_to depth line starts others σ τ v w entry entry' (tree_bracketed t) (tree_bracketed u) r s i j (clean_bracketed t) cu wt wu (tree_bracketed_lem σ t ∙ ap tree_bracketed e ∙ sym (tree_bracketed_lem τ u)),
       )
 
   pub atoms_agree : {x y : ℕ} (a b : Atom) (r s : List ℕ) → Stands p x (put_atom a r) → Stands q y (put_atom b s) → T (formed_atom (suc depth) a) → T (formed_atom (suc depth) b) → terms_width (terms_of a) ≤ v → terms_width (terms_of b) ≤ w →

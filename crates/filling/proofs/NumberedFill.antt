@@ -2,7 +2,7 @@
 use Prim.Native.Nat.{ℕ, ◌≤◌, ◌<◌, max}
 use mathlib.Core.Bool.{Bool, true, ◌&&◌}
 use mathlib.Core.List.{List, [], ◌∷◌}
-use mathlib.Core.Path.{◌≡◌}
+use mathlib.Core.Path.{◌≡◌, sym, ap, ◌∙◌}
 use native.Mathlib.Omega.{arith}
 use lib.Dec.{T, ltb, leb→le, le→leb, ltb→lt, lt→ltb}
 use Rattle.logic.specs.declared.Sign.TheVariants.{Positive}
@@ -14,9 +14,11 @@ use Rattle.logic.specs.Fill.{Substitution, fill, fills, fill_atom, fill_literal,
 use Rattle.logic.proofs.Both.{left, right, both}
 use Rattle.logic.proofs.Ground.{each_fill, eachs_fill}
 use Rattle.logic.proofs.Over.{Over, fill_over}
-use Rattle.text.specs.Write.{put_atom}
+use Rattle.text.specs.Write.{put_bracketed, put_atom}
 use Rattle.text.specs.Form.{formed_number, numbered, numbereds, formed_term, formed_terms, formed_result, formed_part, formed_parts, formed_atom, formed_literal, formed_clause}
 use Rattle.text.proofs.Tests.{T_and}
+use Rattle.text.specs.Read.{got, read_bracketed}
+use Rattle.text.proofs.Complete.{bracketed_complete}
 use Rattle.text.proofs.Unique.{atom_unique}
 use Rattle.text.proofs.Deep.{formed_symbol, each_numbered, eachs_numbered, numbered_each, numbereds_each, atom_depth, atom_formed, formed_over}
 
@@ -65,6 +67,19 @@ atom_bytes x y r s h k e =
     let d = max (atom_depth x) (atom_depth y) in
     (atom_unique d x y r s (atom_formed d x (omega arith) h) (atom_formed d y (omega arith) k) e).0
 
+-- So are parts of such arrow atoms, as a molecule has them.
+bracketed_unique : (d : ℕ) (p q : Part) (r s : List ℕ) → T (formed_part d p) → T (formed_part d q) → put_bracketed p r ≡ put_bracketed q s → p ≡ q
+bracketed_unique d p q r s f g e = let z : got p r ≡ got q s = sym (bracketed_complete d p f r) ∙ ap (read_bracketed d) e ∙ bracketed_complete d q g s in cc
+
+pub bracketed_bytes : (o u : Term) (p q : Part) (r s : List ℕ) → T (atom_over formed_number formed_symbol (arrows o (only p))) → T (atom_over formed_number formed_symbol (arrows u (only q))) →
+    put_bracketed p r ≡ put_bracketed q s → p ≡ q
+unfolding formed_atom formed_parts
+bracketed_bytes o u p q r s h k e =
+    let d = max (atom_depth (arrows o (only p))) (atom_depth (arrows u (only q))) in
+    let f = atom_formed d (arrows o (only p)) (omega arith) h in
+    let g = atom_formed d (arrows u (only q)) (omega arith) k in
+    bracketed_unique d p q r s (simp T_and at f).1 (simp T_and at g).1 e
+
 -- A greater depth.
 pub term_deeper : (d e : ℕ) (t : Term) → d ≤ e → T (formed_term d t) → T (formed_term e t)
 unfolding formed_term
@@ -79,7 +94,7 @@ unfolding formed_result
 result_deeper d e a (value t) h f = term_deeper d e t h f
 result_deeper d e a none h f = f
 
-part_deeper : (d e : ℕ) (p : Part) → d ≤ e → T (formed_part d p) → T (formed_part e p)
+pub part_deeper : (d e : ℕ) (p : Part) → d ≤ e → T (formed_part d p) → T (formed_part e p)
 unfolding formed_part
 part_deeper d e (part a m ts r) h f =
     let ((q, y), z) = simp T_and at f in

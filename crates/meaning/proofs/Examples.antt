@@ -1,4 +1,5 @@
--- Three texts, one of each answer, and the inputs of the two that have a model; two texts with a signature that has none.
+-- Three texts, one of each answer, and the inputs of the two that have a model; two texts with a signature that has none; one with
+-- molecules.
 use Prim.Native.Nat.{ℕ}
 use Prim.Native.String.{String}
 use mathlib.Core.List.{List, [], ◌∷◌}
@@ -39,3 +40,16 @@ bare_text =
 unfoldable pub bare_out_text : List ℕ
 bare_out_text =
     text_of (bare_lines "(in (or (+ (sub (f 0) (f 1)))))" ("(by out 0 0 1 0 0 (let) (let) (or (+ (mt (f 0) (f 0) ((f 0)) (f 1)))))" ∷ []))
+
+-- mer has A's parts and then B's, pro takes the last of them, and res has what fits into the molecule.
+unfoldable pub molecule_text : List ℕ
+molecule_text =
+    text_of
+    ("(sym 0)"
+    ∷ "(in (or (+ (mol (f 0) (sv (f 0) () (f 0)) (si (f 0) () (f 0))))))"
+    ∷ "(in (or (+ (mv (f 0) (f 0) () (f 0)))))"
+    ∷ "(in (or (- (mol (f 0) (mv (f 0) () none) (si (f 0) () (f 0))))))"
+    ∷ "(by mer 0 0 1 0 0 (let) (let) (or (+ (mol (f 0) (sv (f 0) () (f 0)) (si (f 0) () (f 0)) (mv (f 0) () (f 0))))))"
+    ∷ "(by pro 3 0 0 0 2 (let) (let) (or (+ (mv (f 0) (f 0) () (f 0)))))"
+    ∷ "(by res 2 0 3 0 0 (let) (let) (or))"
+    ∷ [])

@@ -5,12 +5,12 @@ use mathlib.Core.Bool.{true}
 use mathlib.Core.Logic.{inl}
 use mathlib.Core.Path.{◌≡◌, refl, sym, subst₂}
 use lib.Dec.{T}
-use Rattle.logic.specs.Syntax.{Atom, Clause}
+use Rattle.logic.specs.Syntax.{Term, Part, Parts, also, Atom, arrows, Clause}
 use Rattle.logic.specs.Terms.{count, terms_of}
-use Rattle.logic.specs.Each.{each_term, each_atom, declares, never, allowed, no_molecule, ground_term, ground_atom, atom_over}
+use Rattle.logic.specs.Each.{each_term, each_atom, declares, never, allowed, one_part, no_molecule, ground_term, ground_atom, atom_over}
 use Rattle.logic.specs.Fill.{fill, fill_atom, fill_literal, fill_clause}
 use Rattle.logic.specs.Structure.{Structure, TrueIn, SatisfiesLiteral, SomeLiteral, Satisfies, Grounds, Models, ModelsAll}
-use Rattle.logic.proofs.Both.{both}
+use Rattle.logic.proofs.Both.{left, both}
 use Rattle.logic.proofs.Every.{everything}
 use Rattle.text.specs.declared.Figures.{Figures}
 use Rattle.text.specs.Figures.{office}
@@ -49,3 +49,8 @@ open_example = subst₂ Modelled (sym computed.open_table) (sym computed.open_in
 
 pub refused_example : Modelled (table_of office refused_text) (inputs_of office refused_text)
 refused_example = subst₂ Modelled (sym computed.refused_table) (sym computed.refused_inputs) (everything (0 ∷ []), every_models)
+
+-- H11: "A set holds no molecule".
+pub holds_no_molecule : (table : List ℕ) (H : Atom → Type 0) → Structure table H → (o : Term) (p : Part) (ps : Parts) → H (arrows o (also p ps)) → ⊥
+unfolding ground_atom no_molecule one_part
+holds_no_molecule table H S o p ps h = left (no_molecule (arrows o (also p ps))) (atom_over never (declares table) (arrows o (also p ps))) (S.ground h)

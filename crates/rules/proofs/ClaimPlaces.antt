@@ -9,7 +9,7 @@ use Rattle.text.proofs.Places.{end_of}
 use Rattle.clauses.specs.Parts.{PartIn, part_at}
 use Rattle.filling.specs.Filled.{matches, item_depth}
 use Rattle.filling.proofs.Places.{filled_by}
-use Rattle.expected.specs.Claims.{Expected, in_claim, merged, projected}
+use Rattle.expected.specs.Claims.{Expected, merged, projected}
 use Rattle.rules.proofs.RowPlaces.{Kind, Reflexivity, Resolution, Factoring, Rewriting, Acyclicity, Scalarity, Elimination, Merging, Projection, bare_item, Found, found_at}
 
 -- What the claim keeps, of terms that nest at most `depth` deep: of A's first `a` literals all but literal i, of B's first `b` all but
@@ -23,7 +23,7 @@ pub record Kept : Type 0 where
 
 -- An item, filled by a list of the line, is expected; the new literals of mer and pro.
 abbrev pub expected_at : ℕ → List ℕ → List ℕ → Expected
-expected_at depth line starts x rest = in_claim (matches (filled_by line starts (item_depth depth) x.bytes) rest)
+expected_at depth line starts x rest = matches (filled_by line starts (item_depth depth) x.bytes) rest
 
 unfoldable pub projected_at : ℕ → List ℕ → List ℕ → List ℕ → Option PartIn → List ℕ → ℕ → ℕ
 projected_at depth line starts object None rest pos = length rest + 1

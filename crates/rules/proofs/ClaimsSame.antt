@@ -23,7 +23,7 @@ use Rattle.filling.specs.Items.{Item, by_entries, with_hole, listed, filled_in}
 use Rattle.filling.proofs.Places.{plain, replacing, filled_by, Ends, ends_of}
 use Rattle.filling.proofs.Claims.{filled_at, rewritten_at, linked_at, reflexive_at, equated_at, kept_at, once_at, others_from, others_at, claim_end}
 use Rattle.filling.proofs.Walk.{fill_shrinks, shrinks_tail}
-use Rattle.expected.specs.Claims.{nothing_after, claim_ends, in_claim, item_claimed, linked, reflexive, equated, rewritten, kept, others_from as others-from, others}
+use Rattle.expected.specs.Claims.{nothing_after, claim_ends, in_claim, item_expected, item_claimed, linked, reflexive, equated, rewritten, kept, others_from as others-from, others}
 use Rattle.rules.specs.Claim.{ends_after}
 use Rattle.rules.proofs.Landing.{Lands, lands, lost, land, assoc, skip_walk}
 use Rattle.rules.proofs.ListsSame.{Lists, filler_same, filled_same}
@@ -145,8 +145,8 @@ module _ (rest : List ℕ) where
         go {pos} (gone h) = gone (match_gone f pos h)
 
   module _ (depth : ℕ) where
-    pub item_read : {p line starts bs : List ℕ} {at : ℕ} {es : Option (List (List ℕ))} → Holds p at line starts bs es → Reads (filled_at depth p at line starts rest) (item_claimed depth (item bs es))
-    unfolding filled_at item_claimed
+    pub item_read : {p line starts bs : List ℕ} {at : ℕ} {es : Option (List (List ℕ))} → Holds p at line starts bs es → Reads (filled_at depth p at line starts rest) (item_claimed (item_expected depth) (item bs es))
+    unfolding filled_at item_claimed item_expected
     item_read {p} {line} {starts} {bs} {at} {es} h = match_read p (filled_same h.list (item_depth depth) (drop at p) ∙ ap (filled_in es (item_depth depth)) h.there)
 
     module _ {p line starts bs q others cs : List ℕ} {at from : ℕ} {es fs : Option (List (List ℕ))} where
@@ -238,7 +238,7 @@ module _ (rest : List ℕ) where
       on_dropped k n at pos {left} f same e (lands {rest = cs} s) = same (n + 1) at pos cs left s.bytes_there e
 
       from_same : (k : ℕ) → FromSame k
-      unfolding others_from others-from once_at kept strip_at skip_at pass_item
+      unfolding others_from others-from once_at kept item_expected strip_at skip_at pass_item
       from_same zero n at pos bs left d e = ahead e
       from_same (suc k) n at pos bs left d e = go (eqb n dropped) refl (from_same k)
         where

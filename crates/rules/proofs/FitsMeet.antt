@@ -1,25 +1,25 @@
 -- An atom fits into another in bytes exactly if it does, both filled.
-use Prim.Native.Nat.{ℕ, ◌≤◌}
-use mathlib.Core.Bool.{Bool, true, false, ◌||◌, ◌&&◌}
+use Prim.Native.Nat.{ℕ, suc, ◌<◌, ◌≤◌}
+use mathlib.Core.Bool.{Bool, true, false, ◌||◌, ◌&&◌, not}
 use mathlib.Core.List.{List, [], ◌∷◌}
 use mathlib.Core.Logic.{◌⊎◌, inl, inr, ⊎_elim, ◌↔◌}
-use mathlib.Core.Path.{◌≡◌, refl, ap, subst}
+use mathlib.Core.Path.{◌≡◌, refl, ap, subst, sym, ◌∙◌}
 use native.Mathlib.Omega.{arith}
-use lib.Dec.{T, leb→le}
+use lib.Dec.{T, leb→le, le→leb}
 use lib.ListN.{drop}
 use Rattle.logic.specs.declared.Link.{Link}
 use Rattle.logic.specs.declared.Arrow.{Arrow}
-use Rattle.logic.specs.Syntax.{Term, var, app, Terms, Result, value, none, may_be_none, Part, part, Parts, only, also, Atom, link, obj, arrows}
+use Rattle.logic.specs.Syntax.{Term, var, app, Terms, nil, Result, value, none, may_be_none, Part, part, Parts, only, also, Atom, link, obj, arrows}
 use Rattle.logic.specs.Terms.{result_terms, part_terms, parts_terms, terms_of}
 use Rattle.logic.specs.Equality.{arrow?}
-use Rattle.logic.specs.Each.{term_width, terms_width, one_part, no_molecule}
+use Rattle.logic.specs.Each.{atom_over, term_width, terms_width, one_part, no_molecule}
 use Rattle.logic.specs.Fill.{Substitution, fill, fills, fill_result, fill_part, fill_parts, fill_atom}
 use Rattle.logic.specs.Rules.{bare_result, bare_part, CoversPart, SomeCovers, EachCovered, Fits}
 use Rattle.logic.proofs.Fitting.{fits_covers, fits_link, fits_obj, link_fits, obj_fits}
-use Rattle.text.specs.Write.{word, put_term, put_arguments, put_result, put_part, put_atom}
-use Rattle.text.specs.Read.{bad, got, strip}
+use Rattle.text.specs.Write.{word, put_term, put_arguments, put_result, put_part, put_bracketed, put_atom}
+use Rattle.text.specs.Read.{bad, got, strip, skip}
 use Rattle.text.specs.Access.{stood}
-use Rattle.text.specs.Form.{formed_term, formed_terms, formed_result, formed_part, formed_parts, formed_atom}
+use Rattle.text.specs.Form.{depth_of, formed_number, numbered, formed_term, formed_terms, formed_result, formed_part, formed_parts, formed_atom}
 use Rattle.text.specs.Figures.{count_parts, few_parts}
 use Rattle.text.proofs.Nesting.{skip_term, skip_arguments}
 use Rattle.text.proofs.Tests.{T_and, holds}
@@ -28,9 +28,11 @@ use Rattle.clauses.specs.Shapes.{next}
 use Rattle.clauses.specs.Parts.{PartIn, molecule}
 use Rattle.clauses.proofs.Molecules.{molecule_of, no_molecule_of, no_molecule_link, from_object, object_stands, no_object, Shows, ShowsAll, parts_shown}
 use Rattle.clauses.proofs.Placing.{Stands}
-use Rattle.filling.specs.Items.{Item}
-use Rattle.filling.proofs.Agree.{agree_at}
-use Rattle.agreement.specs.Agrees.{further, is_none, result_covered, arguments_covered, method_covered, same_arrow, part_covered, some_covers, each_covered, parts_fit}
+use Rattle.filling.specs.Items.{Item, beside}
+use Rattle.filling.proofs.Agreed.{bracketed_agree}
+use Rattle.filling.proofs.NumberedFill.{part_deeper, fill_atom_over}
+use Rattle.text.proofs.Deep.{formed_symbol}
+use Rattle.agreement.specs.Agrees.{further, is_none, result_covered, arguments_covered, is_item, no_result, whole, same_arrow, part_covered_by, part_covered, some_covers, each_covered, parts_fit}
 use Rattle.rules.proofs.Meets.{Images}
 use Rattle.rules.proofs.TermsMeet.{term_meets, arguments_meet}
 use Rattle.rules.proofs.CoversMeet.{AtomAt, T_or, covers_meet}
@@ -146,6 +148,25 @@ either_true : (a b : Bool) → b ≡ true → a || b ≡ true
 either_true true b e = refl
 either_true false b e = e
 
+-- A part that has a term for its result is covered by its equal alone.
+value_covers : (a c : Arrow) (m n : Term) (ts us : Terms) (r : Result) (t : Term) (s : Result) → r ≡ value t → CoversPart (part c n us s) (part a m ts r) → part a m ts r ≡ part c n us s
+unfolding ResultCovers
+value_covers a c m n ts us none t s d k = let z : ◌≡◌ {A = ℕ} 0 1 = cc in absurd (omega arith)
+value_covers a c m n ts us (value r) t none d k = absurd ((covers_parts a c m n ts us (value r) none (λ e. let z : ◌≡◌ {A = ℕ} 0 1 = cc in absurd (omega arith))).1 k).3
+value_covers a c m n ts us (value r) t (value u) d k =
+    let w = (covers_parts a c m n ts us (value r) (value u) (λ e. let z : ◌≡◌ {A = ℕ} 0 1 = cc in absurd (omega arith))).1 k in
+    let e = w.0 in let e₁ = w.1 in let e₂ = w.2 in let e₃ = w.3 in cc
+
+-- A filled part is one of an atom over the numbers of the text form.
+abbrev constant : Term
+constant = app 0 nil
+
+part_over : (depth : ℕ) (ρ : Substitution) (w : ℕ) → ((n : ℕ) → n < w → T (numbered (ρ n))) → (p : Part) → T (formed_part depth p) → terms_width (part_terms p) ≤ w →
+    T (atom_over formed_number formed_symbol (arrows constant (only (fill_part ρ p))))
+unfolding fill_atom fill_parts fill formed_atom formed_parts formed_term depth_of numbered terms_of terms_width term_width parts_terms
+part_over depth ρ w numbers p f n =
+    fill_atom_over ρ w numbers (suc depth) (arrows constant (only p)) (simp T_and ((le→leb 1 (suc depth) (omega arith), (tt, tt)), part_deeper depth (suc depth) p (omega arith) f)) (omega arith)
+
 module _ (depth : ℕ) where
   module _ {line starts others : List ℕ} {σ τ : Substitution} {v w : ℕ} (g : Images line starts σ v) (h : Images line others τ w) where
     abbrev test : Item → Item → Bool
@@ -177,20 +198,88 @@ module _ (depth : ℕ) where
     none_allowed a none f e = f
     none_allowed a (value t) f e = let z : ◌≡◌ {A = ℕ} 0 1 = cc in absurd (omega arith)
 
-    -- A part that was read is covered by another exactly if it is, both filled.
-    part_meets : {x y : PartIn} (q p : Part) → Shows x q → Shows y p → T (formed_part depth q) → T (formed_part depth p) → terms_width (part_terms q) ≤ v → terms_width (part_terms p) ≤ w → (X Y : Item) →
+    -- Two parts of molecules as they stand.
+    items_test : (p q : Part) (r s : List ℕ) → T (formed_part depth p) → T (formed_part depth q) → terms_width (part_terms p) ≤ v → terms_width (part_terms q) ≤ w → (X Y : Item) →
+        T (test (beside X (put_bracketed p r)) (beside Y (put_bracketed q s))) ↔ (fill_part σ p ≡ fill_part τ q)
+    items_test p q r s fp fq np nq X Y =
+        bracketed_agree depth (put_bracketed p r) (put_bracketed q s) line starts others σ τ v w g.entry h.entry constant constant p q r s (here _) (here _)
+        (part_deeper depth (suc (suc depth)) p (omega arith) fp) (part_deeper depth (suc (suc depth)) q (omega arith) fq) np nq (part_over depth σ v g.numbers p fp np) (part_over depth τ w h.numbers q fq nq)
+
+    -- A part that was read is covered by another exactly if it is, both filled: piece by piece, or, where it has a term for its result, as a
+    -- whole.
+    module _ (a c : Arrow) (m n : Term) (ts us : Terms) (r s : Result) {x y : PartIn} (sx : Shows x (part a m ts r)) (sy : Shows y (part c n us s)) (fq : T (formed_part depth (part a m ts r)))
+        (fp : T (formed_part depth (part c n us s))) (nq : terms_width (part_terms (part a m ts r)) ≤ v) (np : terms_width (part_terms (part c n us s)) ≤ w) (X Y : Item) where
+      abbrev covering : Type 0
+      covering = CoversPart (fill_part τ (part c n us s)) (fill_part σ (part a m ts r))
+
+      methods_test : T (test (beside X x.method) (beside Y y.method)) ↔ (fill σ m ≡ fill τ n)
+      unfolding formed_part part_terms terms_width put_part
+      methods_test = let ((f, _), _) = simp T_and at fq in let ((g, _), _) = simp T_and at fp in rw (sx.method, sy.method) (terms_test m n _ _ f g (omega arith) (omega arith))
+
+      abbrev pieces : Bool
+      pieces = same_arrow x.arrow y.arrow && (test (beside X x.method) (beside Y y.method) && further (arguments_covered test) (beside X x.method) (beside Y y.method) (next x.method) (next y.method))
+
+      pieces_meet : T pieces ↔ covering
+      unfolding arguments_covered result_covered further fill_part formed_part part_terms terms_width put_part
+      pieces_meet =
+          let ((fm, fts), fr) = simp T_and at fq in
+          let ((fn, fus), fs) = simp T_and at fp in
+          let jq = join_width ts (result_terms r) in
+          let jp = join_width us (result_terms s) in
+          let ends = four_iff _ _ _ _ (same_arrow_lem a c) (terms_test m n _ _ fm fn (omega arith) (omega arith))
+          (arguments_test ts us _ _ fts fus (omega arith) (omega arith)) (result_test a c r s _ _ fr fs (omega arith) (omega arith)) in
+          let parts = covers_parts a c (fill σ m) (fill τ n) (fills σ ts) (fills τ us) (fill_result σ r) (fill_result τ s) (λ e. none_allowed a r fr e) in
+          rw (sx.arrow, sy.arrow, sx.method, sy.method, next_method a m ts r sx.rest, next_method c n us s sy.rest, next_arguments ts (put_result r (word ")" sx.rest)), next_arguments us (put_result s (word ")" sy.rest)))
+          (λ t. parts.0 (ends.0 t), λ e. ends.1 (parts.1 e))
+
+      -- As wholes: the equal part, and no other, covers one with a term for its result.
+      no_result_told : no_result x.method ≡ stood (skip "none" (put_result r (word ")" sx.rest)))
+      unfolding no_result
+      no_result_told = rw (sx.method, next_method a m ts r sx.rest, next_arguments ts (put_result r (word ")" sx.rest)))
+
+      items_meet : x.item ≡ put_bracketed (part a m ts r) sx.rest → y.item ≡ put_bracketed (part c n us s) sy.rest → T (test (beside X x.item) (beside Y y.item)) ↔ (fill_part σ (part a m ts r) ≡ fill_part τ (part c n us s))
+      items_meet e f = rw (e, f) (items_test (part a m ts r) (part c n us s) sx.rest sy.rest fq fp nq np X Y)
+
+      wholes_meet : (t : Term) → r ≡ value t → x.item ≡ put_bracketed (part a m ts r) sx.rest → y.item ≡ put_bracketed (part c n us s) sy.rest →
+          T (same_arrow x.arrow y.arrow && (test (beside X x.method) (beside Y y.method) && test (beside X x.item) (beside Y y.item))) ↔ covering
+      unfolding fill_part fill_result CoversPart
+      wholes_meet t d e f =
+          let items = items_meet e f in
+          let arrows = same_arrow_lem a c in
+          rw (sx.arrow, sy.arrow) (
+            λ z. let (_, (_, k)) = simp T_and at z in inl (sym (items.0 k)),
+            λ k. let same : fill_part σ (part a m ts r) ≡ fill_part τ (part c n us s) = value_covers a c (fill σ m) (fill τ n) (fills σ ts) (fills τ us) (fill_result σ r) (fill σ t) (fill_result τ s) (ap (fill_result σ) d) k in
+                simp T_and (arrows.1 (cc), (methods_test.1 (cc), items.1 same)),
+          )
+
+      no_result_none : r ≡ none → no_result x.method ≡ true
+      unfolding stood strip put_result
+      no_result_none d = no_result_told ∙ rw d refl
+
+      part_meets : T (part_covered test X Y x y) ↔ covering
+      unfolding part_covered_by whole is_item stood strip
+      part_meets = go (whole x && is_item y.item) refl sx.item sy.item
+        where
+          with_result : (r' : Result) → r ≡ r' → T (not (no_result x.method)) → whole x && is_item y.item ≡ true → x.item ≡ put_bracketed (part a m ts r) sx.rest → y.item ≡ put_bracketed (part c n us s) sy.rest →
+              T (part_covered test X Y x y) ↔ covering
+          with_result none d k e i j = absurd (rw (no_result_none d) at k)
+          with_result (value t) d k e i j = rw e (wholes_meet t d i j)
+
+          go : (b : Bool) → whole x && is_item y.item ≡ b → (x.item ≡ []) ⊎ (x.item ≡ put_bracketed (part a m ts r) sx.rest) → (y.item ≡ []) ⊎ (y.item ≡ put_bracketed (part c n us s) sy.rest) → T (part_covered test X Y x y) ↔ covering
+          go false e i j = rw e pieces_meet
+          go true e i j = both i j
+            where
+              there : T (whole x && is_item y.item)
+              there = subst T (sym e) tt
+
+              both : (x.item ≡ []) ⊎ (x.item ≡ put_bracketed (part a m ts r) sx.rest) → (y.item ≡ []) ⊎ (y.item ≡ put_bracketed (part c n us s) sy.rest) → T (part_covered test X Y x y) ↔ covering
+              both (inl i) j = let ((k, _), _) = simp T_and at there in absurd (rw i at k)
+              both (inr i) (inl j) = let (_, k) = simp T_and at there in absurd (rw j at k)
+              both (inr i) (inr j) = let ((_, k), _) = simp T_and at there in with_result r refl k e i j
+
+    one_meets : {x y : PartIn} (q p : Part) → Shows x q → Shows y p → T (formed_part depth q) → T (formed_part depth p) → terms_width (part_terms q) ≤ v → terms_width (part_terms p) ≤ w → (X Y : Item) →
         T (part_covered test X Y x y) ↔ CoversPart (fill_part τ p) (fill_part σ q)
-    unfolding part_covered method_covered arguments_covered result_covered same_arrow agree_at further fill_part formed_part part_terms terms_width put_part
-    part_meets (part a m ts r) (part c n us s) sx sy fq fp nq np X Y =
-        let ((fm, fts), fr) = simp T_and at fq in
-        let ((fn, fus), fs) = simp T_and at fp in
-        let jq = join_width ts (result_terms r) in
-        let jp = join_width us (result_terms s) in
-        let ends = four_iff _ _ _ _ (same_arrow_lem a c) (terms_test m n _ _ fm fn (omega arith) (omega arith))
-        (arguments_test ts us _ _ fts fus (omega arith) (omega arith)) (result_test a c r s _ _ fr fs (omega arith) (omega arith)) in
-        let parts = covers_parts a c (fill σ m) (fill τ n) (fills σ ts) (fills τ us) (fill_result σ r) (fill_result τ s) (λ e. none_allowed a r fr e) in
-        rw (sx.arrow, sy.arrow, sx.method, sy.method, next_method a m ts r sx.rest, next_method c n us s sy.rest, next_arguments ts (put_result r (word ")" sx.rest)), next_arguments us (put_result s (word ")" sy.rest)))
-        (λ t. parts.0 (ends.0 t), λ e. ends.1 (parts.1 e))
+    one_meets (part a m ts r) (part c n us s) sx sy fq fp nq np X Y = part_meets a c m n ts us r s sx sy fq fp nq np X Y
 
     -- Some part covers one, and each of the parts is covered.
     some_meets : {x : PartIn} (q : Part) → Shows x q → T (formed_part depth q) → terms_width (part_terms q) ≤ v → (ys : List PartIn) (ps : Parts) → ShowsAll ys ps → T (formed_parts depth ps) → terms_width (parts_terms ps) ≤ w →
@@ -198,11 +287,11 @@ module _ (depth : ℕ) where
     unfolding ShowsAll some_covers SomeCovers fill_parts formed_parts parts_terms
     some_meets q sx fq nq [] ps s fp np X Y = absurd s
     some_meets q sx fq nq (y ∷ ys) (only p) (s, e) fp np X Y =
-        rw e (let one = part_meets q p sx s fq fp nq np X Y in (λ t. ⊎_elim (λ z. one.0 z) (λ z. absurd z) ((T_or _ _).0 t), λ c. (T_or _ _).1 (inl (one.1 c))))
+        rw e (let one = one_meets q p sx s fq fp nq np X Y in (λ t. ⊎_elim (λ z. one.0 z) (λ z. absurd z) ((T_or _ _).0 t), λ c. (T_or _ _).1 (inl (one.1 c))))
     some_meets q sx fq nq (y ∷ ys) (also p ps) (s, more) fp np X Y =
         let (f, k) = simp T_and at fp in
         let j = join_width (part_terms p) (parts_terms ps) in
-        or_iff _ _ (part_meets q p sx s fq f nq (omega arith) X Y) (some_meets q sx fq nq ys ps more k (omega arith) X Y)
+        or_iff _ _ (one_meets q p sx s fq f nq (omega arith) X Y) (some_meets q sx fq nq ys ps more k (omega arith) X Y)
 
     each_meets : (xs : List PartIn) (qs : Parts) → ShowsAll xs qs → T (formed_parts depth qs) → terms_width (parts_terms qs) ≤ v → (ys : List PartIn) (ps : Parts) → ShowsAll ys ps → T (formed_parts depth ps) → terms_width (parts_terms ps) ≤ w →
         (X Y : Item) → T (each_covered (part_covered test X Y) xs ys) ↔ EachCovered (fill_parts τ ps) (fill_parts σ qs)

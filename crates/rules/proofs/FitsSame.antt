@@ -9,7 +9,7 @@ use Rattle.text.specs.Read.{Parsed, bad, got}
 use Rattle.clauses.specs.Shapes.{next}
 use Rattle.clauses.specs.Parts.{PartIn, object_of, parts}
 use Rattle.filling.specs.Items.{Item}
-use Rattle.agreement.specs.Agrees.{further, result_covered, arguments_covered, method_covered, part_covered, some_covers, each_covered, parts_fit}
+use Rattle.agreement.specs.Agrees.{further, result_covered, arguments_covered, part_covered_by, part_covered, some_covers, each_covered, parts_fit}
 use Rattle.rules.proofs.ClaimsSame.{item}
 
 -- Of the parts of two atoms, one by one.
@@ -45,13 +45,9 @@ module _ (es fs es' fs' : Option (List (List ℕ))) where
     unfolding arguments_covered
     arguments_alike = record { at = λ ps qs. rw (h.at ps qs, further_alike result_alike ps qs (next ps) (next qs)) }
 
-    method_alike : TestsAlike (method_covered test) (method_covered test')
-    unfolding method_covered
-    method_alike = record { at = λ ps qs. rw (h.at ps qs, further_alike arguments_alike ps qs (next ps) (next qs)) }
-
     part_alike : (ps qs : List ℕ) (p q : PartIn) → part_covered test (item ps es) (item qs fs) p q ≡ part_covered test' (item ps es') (item qs fs') p q
-    unfolding part_covered
-    part_alike ps qs p q = rw (method_alike.at p.method q.method)
+    unfolding part_covered_by
+    part_alike ps qs p q = rw (h.at p.method q.method, h.at p.item q.item, further_alike arguments_alike p.method q.method (next p.method) (next q.method))
 
     pub fit_alike : TestsAlike (parts_fit test) (parts_fit test')
     unfolding parts_fit

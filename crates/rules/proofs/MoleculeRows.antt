@@ -17,8 +17,8 @@ use Rattle.logic.specs.Fill.{Substitution, fill, fills, fill_part, fill_parts, f
 use Rattle.logic.specs.Rules.{always, equal, Holds, join_parts, PartAt, plus, one}
 use Rattle.logic.specs.Judge.{Conclusion, misshapen, on_plus, on_parts, on_molecule, on_part, conclude_mer, conclude_pro, table_row}
 use Rattle.text.specs.Words.{bytes}
-use Rattle.text.specs.Write.{word, put_term, put_arguments, put_parts, put_atom, put_literals}
-use Rattle.text.specs.Read.{Parsed, bad, got, and_then, strip}
+use Rattle.text.specs.Write.{word, put_term, put_parts, put_atom, put_literals}
+use Rattle.text.specs.Read.{strip}
 use Rattle.text.specs.Access.{skip_item}
 use Rattle.text.specs.Form.{formed_atom, formed_literal}
 use Rattle.text.specs.Heads.{kind_number, head}
@@ -32,12 +32,11 @@ use Rattle.clauses.proofs.Molecules.{from_object, object_stands, no_object, Show
 use Rattle.clauses.proofs.Places.{strip_at, positive_at}
 use Rattle.clauses.proofs.Placing.{Stands, strip_stands, walk_stands, walk_past, none_past, head_past, past_strip}
 use Rattle.filling.specs.Items.{Item}
-use Rattle.filling.specs.Filled.{matches, item_depth}
+use Rattle.filling.specs.Filled.{item_depth}
 use Rattle.filling.proofs.Filling.{tree_term_lem, tree_arguments_lem}
 use Rattle.filling.proofs.Grounds.{Entries, filled_by_lem}
 use Rattle.filling.proofs.Claimed.{strip_chain}
 use Rattle.filling.proofs.NumberedFill.{term_deeper, terms_deeper}
-use Rattle.expected.specs.Claims.{in_claim}
 use Rattle.expected.proofs.Molecules.{Reads, merged_reads, projected_reads, part_at_formed, part_at_narrow}
 use Rattle.rules.proofs.Answered.{right_shape}
 use Rattle.rules.proofs.Meets.{Images, LiteralAt, Meets}
@@ -51,24 +50,14 @@ use Rattle.rules.proofs.Tails.{object_tail}
 use Rattle.rules.proofs.RowPlaces.{is_part, object_place, molecule_place, answer, row_at, found_by, joined, projected as projected_row, agrees_by}
 use Rattle.rules.proofs.ClaimPlaces.{expected_at, merged_at, projected_at, new_at, new_by}
 
--- What is expected of an item is its filled bytes.
-in_claim_is : (ws rest bs : List ℕ) → in_claim (matches (got ws rest) bs) ≡ strip ws bs
-unfolding in_claim matches
-in_claim_is ws rest bs = go (strip ws bs)
-  where
-    go : (q : Parsed (Unit {0})) → in_claim (and_then q (λ _ left. got left rest)) ≡ q
-    go bad = refl
-    go (got u more) = refl
-
 module _ (depth : ℕ) where
+  -- What is expected of an item is its filled bytes, and what stands after it is left of its clause.
   reads : (line starts : List ℕ) (σ : Substitution) (w : ℕ) → Entries line starts σ w → (x : Item) → Reads (expected_at depth line starts) x σ depth w
   reads line starts σ w entry x = record {
     term = λ t rest f h bs.
-        rw (put_term_lem t rest, filled_by_lem line starts σ w entry (tree_term t) (item_depth depth) (clean_term t) (within_term w t (item_depth depth) (term_deeper depth (item_depth depth) t (omega arith) f) h) rest, tree_term_lem σ t, ← put_term_lem (fill σ t) [])
-        (in_claim_is (put_term (fill σ t) []) rest bs);
+        rw (put_term_lem t rest, filled_by_lem line starts σ w entry (tree_term t) (item_depth depth) (clean_term t) (within_term w t (item_depth depth) (term_deeper depth (item_depth depth) t (omega arith) f) h) rest, tree_term_lem σ t, ← put_term_lem (fill σ t) []) refl;
     arguments = λ ts rest f h bs.
-        rw (put_arguments_lem ts rest, filled_by_lem line starts σ w entry (tree_arguments ts) (item_depth depth) (clean_arguments ts) (within_arguments w (suc (suc (suc depth))) ts (terms_deeper depth (suc (suc (suc depth))) ts (omega arith) f) h) rest, tree_arguments_lem σ ts, ← put_arguments_lem (fills σ ts) [])
-        (in_claim_is (put_arguments (fills σ ts) []) rest bs);
+        rw (put_arguments_lem ts rest, filled_by_lem line starts σ w entry (tree_arguments ts) (item_depth depth) (clean_arguments ts) (within_arguments w (suc (suc (suc depth))) ts (terms_deeper depth (suc (suc (suc depth))) ts (omega arith) f) h) rest, tree_arguments_lem σ ts, ← put_arguments_lem (fills σ ts) []) refl;
   }
 
 -- What is read as the new literal is the new literal.

@@ -4,7 +4,7 @@ use Rattle.std.specs.Prelude.{ℕ, Bool, false, List, length}
 use Rattle.text.specs.Read.{Parsed, bad, got, Reader, ◌>>◌}
 use Rattle.clauses.specs.Shapes.{literals}
 use Rattle.filling.specs.Items.{Item, item_of, beside}
-use Rattle.expected.specs.Claims.{item_claimed, reflexive, equated, rewritten, merged, projected, others, claim_ends}
+use Rattle.expected.specs.Claims.{item_expected, reflexive, equated, rewritten, merged, projected, others, claim_ends}
 use Rattle.expected.specs.declared.claims.Kept.{Kept}
 use Rattle.rule_table.specs.Rows.{FoundAt, nothing, fitting, rewriting, crossing, calling, denied_term, merging, projecting}
 use Rattle.rules.specs.declared.claims.Premise.{Premise}
@@ -17,8 +17,8 @@ new_by depth x y (rewriting l t s o) = rewritten depth (beside x l) (length t) (
 new_by depth x y (crossing p q p' q') = equated depth (beside x p) (beside x q)
 new_by depth x y (calling same o r o' r') = equated depth (beside x r) (beside y r')
 new_by depth x y denied_term = λ rest. got tt rest
-new_by depth x y (merging l o r o') = merged (item_claimed depth) (item_claimed depth) (beside x l) (beside y r)
-new_by depth x y (projecting o p) = projected (item_claimed depth) (beside x o) p
+new_by depth x y (merging l o r o') = merged (item_expected depth) (item_expected depth) (beside x l) (beside y r)
+new_by depth x y (projecting o p) = projected (item_expected depth) (beside x o) p
 
 -- A parent, filled, and its number of literals.
 pub record PremiseAt : Type 0 where
