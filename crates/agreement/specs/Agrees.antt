@@ -6,6 +6,7 @@ use Rattle.logic.specs.declared.Arrow.{Arrow}
 use Rattle.logic.specs.Equality.{arrow?}
 use Rattle.text.specs.Read.{Parsed, bad, got, ◌>>◌, strip, skip}
 use Rattle.text.specs.Access.{stood}
+use Rattle.clauses.specs.Entries.{after}
 use Rattle.clauses.specs.Shapes.{next, result_of}
 use Rattle.clauses.specs.Parts.{PartIn, molecule, object_of, parts}
 use Rattle.filling.specs.Filled.{same_item, matches, item_depth}
@@ -38,13 +39,17 @@ Finds x p q (Some y) =
     (y.depth ≡ x.depth)
     × ((test : Item → Item → Bool) → further test (item_of x.a) (item_of x.b) p q ≡ test (item_of y.a) (item_of y.b))
 
+-- What stands after an item; no bytes, where nothing does.
+unfoldable pub onward : Item → Item
+onward x = beside x (after (next x.bytes))
+
 -- R18, "same .. argument count, .. method, arguments", from the methods on.
 unfoldable pub parts_agree : ℕ → Item → Item → Bool
-parts_agree depth x y = agrees depth x y && further (agrees depth) x y (next x.bytes) (next y.bytes)
+parts_agree depth x y = agrees depth x y && agrees depth (onward x) (onward y)
 
 -- R18, "same .. argument count, object, method, arguments", from the objects on.
 unfoldable pub calls_agree : ℕ → Item → Item → Bool
-calls_agree depth x y = agrees depth x y && further (parts_agree depth) x y (next x.bytes) (next y.bytes)
+calls_agree depth x y = agrees depth x y && parts_agree depth (onward x) (onward y)
 
 -- The result of an arrow atom, from its object on, is none.
 unfoldable pub has_none : List ℕ → Bool

@@ -4,7 +4,7 @@ ghost use Rattle.text.specs.Answers.{passed};
 ghost use Rattle.clauses.specs.Shapes.{next as next_of};
 ghost use Rattle.filling.specs.Items.{item_of, beside};
 ghost use Rattle.clauses.specs.Parts.{shown, all_shown};
-ghost use Rattle.agreement.specs.Agrees.{Finds, agrees, parts_agree, calls_agree, has_none, is_bare, is_covered, is_none};
+ghost use Rattle.agreement.specs.Agrees.{Finds, agrees, onward, parts_agree, calls_agree, has_none, is_bare, is_covered, is_none};
 ghost use Rattle.agreement.specs.Agrees.{result_covered, arguments_covered, is_item, no_result, whole, part_covered_by, part_covered, each_covered, parts_fit, is_fitting};
 
 use crate::same::Lists;
@@ -92,6 +92,18 @@ impl<'a> Pair<'a> {
         self.further(next(self.a.item), next(self.b.item))
     }
 
+    // The items after these two; no bytes where none stands there, as the definitions have it.
+    #[tactic(auto, unfolding(crate::specs::Agrees::onward, clauses::specs::Entries::after))]
+    fn onward(self) -> Self
+        ensures depth { result.depth ≡ self.entry.depth }
+        ensures items { (item_of result.a ≡ onward (item_of self.entry.a)) × (item_of result.b ≡ onward (item_of self.entry.b)) }
+    {
+        self.beside(
+            next(self.a.item).unwrap_or(&[]),
+            next(self.b.item).unwrap_or(&[]),
+        )
+    }
+
     // The two items are the same.
     #[tactic(auto, unfolding(crate::specs::Agrees::agrees_by, crate::specs::Agrees::met, filling::specs::Items::filled_in))]
     pub fn agree(self) -> bool
@@ -116,7 +128,7 @@ impl<'a> Pair<'a> {
     fn parts(self) -> bool
         ensures { result ≡ parts_agree self.entry.depth (item_of self.entry.a) (item_of self.entry.b) }
     {
-        self.agree() && self.next().is_some_and(Pair::agree)
+        self.agree() && self.onward().agree()
     }
 
     // Arrow atoms, from their objects on, are alike but for their results.
@@ -125,7 +137,7 @@ impl<'a> Pair<'a> {
         ensures value { result ≡ calls_agree self.entry.depth (item_of self.entry.a) (item_of self.entry.b) }
         ensures self_unchanged { (item_of self.exit.a ≡ item_of self.entry.a) × (item_of self.exit.b ≡ item_of self.entry.b) }
     {
-        self.agree() && self.next().is_some_and(Pair::parts)
+        self.agree() && self.onward().parts()
     }
 
     // The first atom has none and is otherwise the second.

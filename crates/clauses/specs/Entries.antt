@@ -1,4 +1,4 @@
--- Nothing here is to be believed: `let_entry` (crates/text/proofs/Nesting) says what is found in a written list.
+-- Nothing here is to be believed: `written_entry` (crates/rules/proofs/ListsSame) says what is found in a written list.
 -- R2, "variable N of A becomes term N of the first list": the bytes of the entries of a list.
 use Rattle.std.specs.Prelude.{ℕ, zero, suc, ◌-◌, List, [], ◌∷◌, Option, Some, None, length, take, map}
 use Rattle.std.specs.Borrow.{Bor}

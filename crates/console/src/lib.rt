@@ -155,10 +155,13 @@ pub fn complain<E: Write>(errors: &mut E, name: &[u8], what: &[u8]) {
     let _ = errors.write_all(b"\n");
 }
 
-// The same of what is no bytes but can be shown. Nothing can be promised of what a Display writes.
+// The same of what is no bytes but can be shown. Nothing can be promised of what a Display writes. As in `complain`, a part that can't be
+// written is passed over, and the next one tried.
 pub fn complain_of<E: Write, D: Display + Drop>(errors: &mut E, name: &[u8], what: D) {
     let _ = errors.write_all(name);
-    let _ = writeln!(errors, ": {what}");
+    let _ = errors.write_all(b": ");
+    let _ = write!(errors, "{what}");
+    let _ = errors.write_all(b"\n");
 }
 
 // Whether the program was given argument i, of which the first is its own name.

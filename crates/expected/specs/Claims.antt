@@ -104,12 +104,12 @@ projected claimed x p =
 -- After a space, the literal filled, with an item of another clause, filled, in place of the one that begins `hole` bytes before the end.
 unfoldable pub rewritten : ℕ → Item → ℕ → Item → Reader (Unit {0})
 rewritten depth x hole y =
-    skip " " >> (λ rest. in_claim (matches (fill_item (with_hole (listed x.entries) hole y) (hole_depth depth) x.bytes) rest))
+    λ rest. in_claim (matches (fill_item (with_hole (listed x.entries) hole y) (hole_depth depth) x.bytes) (after (skip " " rest)))
 
 -- The first of the literals that stand after a space each, filled: what is left of the claim, and of the literals.
 unfoldable pub kept : ℕ → Item → List ℕ → Parsed (List ℕ)
 kept depth x rest =
-    and_then (skip " " x.bytes) (λ _ bs. and_then (skip " " rest) (λ _ left. item_expected depth (beside x bs) left))
+    and_then (skip " " x.bytes) (λ _ bs. item_expected depth (beside x bs) (after (skip " " rest)))
 
 -- The k literals from literal n on without the dropped one, each after a space. One that is dropped and the last is not looked at.
 unfoldable pub others_from : ℕ → ℕ → ℕ → ℕ → Item → Reader (Unit {0})

@@ -3,6 +3,8 @@
 // made anew by each call, and each would have to promise besides that the depth stays.
 ghost use Rattle.std.specs.Prelude.{◌≡◌};
 ghost use Rattle.text.specs.Answers.{passed};
+ghost use Rattle.text.specs.Read.{skip};
+ghost use Rattle.clauses.specs.Entries.{after};
 ghost use Rattle.clauses.specs.Shapes.{literals};
 ghost use Rattle.filling.specs.Items.{item_of, entries_of, compared};
 ghost use Rattle.clauses.specs.Parts.{shown, all_shown};
@@ -42,6 +44,14 @@ fn filled<'r>(depth: u8, x: Filled<'_>, rest: &'r [u8]) -> Option<&'r [u8]>
     Some(left)
 }
 
+// The bytes after a space; none where there is none, as the definitions have it: where no byte is expected, none is missed.
+#[tactic(auto, unfolding(clauses::specs::Entries::after))]
+fn after_space(rest: &[u8]) -> &[u8]
+    ensures { result.now ≡ after (skip " " rest.now) }
+{
+    word(rest, b" ").unwrap_or(&[])
+}
+
 // The first of a clause's literals that stand after a space each: what is left of them, and of the claim.
 #[tactic(auto, unfolding(crate::specs::Claims::kept, crate::specs::Claims::item_expected))]
 fn first_kept<'a, 'r>(
@@ -52,7 +62,7 @@ fn first_kept<'a, 'r>(
     ensures { compared result ≡ kept depth (item_of literals.entry) rest.now }
 {
     let literal = literals.beside(word(literals.item, b" ")?);
-    stands(literal, item_depth(depth), word(rest, b" ")?)
+    stands(literal, item_depth(depth), after_space(rest))
 }
 
 // What the claim keeps of a parent: of so many literals of its clause all but one.
@@ -143,7 +153,7 @@ pub fn rewritten<'r>(
         entries: literal.listed(),
         replaced: Some(replaced),
     };
-    let (_, left) = expect(&filling, literal.item, hole_depth(depth), word(rest, b" ")?)?;
+    let (_, left) = expect(&filling, literal.item, hole_depth(depth), after_space(rest))?;
     Some(left)
 }
 

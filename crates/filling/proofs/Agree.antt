@@ -16,16 +16,12 @@ agree_at depth p x line starts q y others =
     let both = within p (ends_of p q (same_item (plain line starts) (plain line others) (item_depth depth) (drop x p) (drop y q))).at in
     cond (ground others) (stands_at depth p x line starts q y) (cond (ground starts) (stands_at depth q y line others p x) both)
 
--- There is something further on in both.
-abbrev pub both_there : List ℕ → ℕ → List ℕ → ℕ → Bool
-both_there p x q y = within p (next_at p x) && within q (next_at q y)
-
 -- R18, "same .. argument count, .. method, arguments", the methods at x and y
 unfoldable pub parts_at : ℕ → List ℕ → ℕ → List ℕ → List ℕ → List ℕ → ℕ → List ℕ → Bool
 parts_at depth p x line starts q y others =
-    agree_at depth p x line starts q y others && (both_there p x q y && agree_at depth p (next_at p x) line starts q (next_at q y) others)
+    agree_at depth p x line starts q y others && agree_at depth p (next_at p x) line starts q (next_at q y) others
 
 -- R18, "same .. argument count, object, method, arguments", the objects at x and y
 unfoldable pub calls_at : ℕ → List ℕ → ℕ → List ℕ → List ℕ → List ℕ → ℕ → List ℕ → Bool
 calls_at depth p x line starts q y others =
-    agree_at depth p x line starts q y others && (both_there p x q y && parts_at depth p (next_at p x) line starts q (next_at q y) others)
+    agree_at depth p x line starts q y others && parts_at depth p (next_at p x) line starts q (next_at q y) others

@@ -56,7 +56,9 @@ fn check_job<I: Read, O: Write>(base: &[u8], from: &mut I, to: &mut O) -> Result
     console::answer(from, to, |job| verdict::check_job(base, job))
 }
 
-// The base, and then the job. The buffer has one byte more than a text may have.
+// The base, and then the job. The buffer has one byte more than a text may have. Not inlined: what is told without a base needs no such
+// buffer, and is told where the stack has no room for one.
+#[inline(never)]
 fn check_over<'a>(rt: &HostRuntime, path: &'a str) -> Result<(), Failure<'a>> {
     let mut base = [0u8; 65536];
     let n = read_base(rt, path, &mut base).map_err(|error| Failure::Base(path, error))?;
@@ -99,8 +101,8 @@ fn report(rt: &HostRuntime, failure: Failure) {
             console::complain(&mut errors, name, b"the name of the file is not UTF-8");
         }
         Failure::Base(path, error) => {
-            let reason = Reason(error);
-            console::complain_of(&mut errors, NAME, format_args!("{path}: {reason}"));
+            let _ = errors.write_all(b"fjob: ");
+            console::complain_of(&mut errors, path.as_bytes(), Reason(error));
         }
         Failure::Stream(error) => console::complain_of(&mut errors, NAME, error),
     }

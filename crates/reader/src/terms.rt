@@ -1,6 +1,7 @@
 // Terms, and lists of terms up to a closing bracket.
-ghost use Rattle.std.specs.Prelude.{◌≡◌, ◌+◌, ◌≤◌, length, IfSome};
-ghost use Rattle.text.specs.Read.{read_variable, read_applied, read_term, read_terms};
+ghost use Rattle.std.specs.Prelude.{◌≡◌, ◌+◌, ◌≤◌, ◌<◌, ◌^◌, length, IfSome};
+ghost use Rattle.logic.specs.Syntax.{app};
+ghost use Rattle.text.specs.Read.{and_then, return, read_variable, read_applied, read_term, read_terms};
 ghost use Rattle.text.specs.Answers.{parsed, mapped};
 ghost use Rattle.reader.specs.Summary.{of_term, bounds, terms_measure};
 
@@ -10,7 +11,8 @@ use scan::numbers::number;
 use scan::words::word;
 
 impl<'t> Context<'t> {
-    // N) after the word v: variable N.
+    // N) after the word v: variable N. Inlined, as what reads a term is: a call would leave in memory what is read of every term.
+    #[inline(always)]
     #[tactic(auto, unfolding(text::specs::Read::read_variable, crate::specs::Summary::of_term))]
     fn variable<'s>(self, s: &'s [u8]) -> Option<(Bounds, &'s [u8])>
         ensures { parsed result ≡ mapped (of_term (bounds self.entry.table.now)) (read_variable s.now) }
@@ -20,19 +22,19 @@ impl<'t> Context<'t> {
         Some((Bounds::below(n + 1), s))
     }
 
-    // A term.
+    // A term. Its heads are patterns, told apart by their second byte, where `word` would compare each as a whole (docs/DESIGN-PASS.md).
     #[inline(always)]
     #[cycle(terms)]
-    #[tactic(auto, unfolding(text::specs::Read::read_term, text::specs::Read::one_of))]
+    #[tactic(auto, unfolding(text::specs::Read::read_term, text::specs::Read::one_of, text::specs::Read::strip))]
     pub fn term<'s>(self, s: &'s [u8]) -> Option<(Bounds, &'s [u8])>
         ensures { parsed result ≡ mapped (of_term (bounds self.entry.table.now)) (read_term self.entry.depth s.now) }
     {
         let inner = self.deeper()?;
-        if let Some(s) = word(s, b"(v ") {
-            return self.variable(s);
+        match s {
+            [b'(', b'f', b' ', s @ ..] => inner.applied(s),
+            [b'(', b'v', b' ', s @ ..] => self.variable(s),
+            _ => None,
         }
-        let s = word(s, b"(f ")?;
-        inner.applied(s)
     }
 
     // N TERM ...) after the word f: symbol N applied to the terms, which are mostly none.
@@ -46,6 +48,18 @@ impl<'t> Context<'t> {
         if let Some(s) = word(s, b")") {
             return Some((Bounds::symbol(f, self.declares(f, 0)), s));
         }
+        self.compound(f, s)
+    }
+
+    // TERM ...) after the number of a symbol, each term after one space. By itself, though inlined: the room for what comes back from `terms` is
+    // made ready where its function begins, to which a constant does not come.
+    #[inline(always)]
+    #[cycle(terms)]
+    #[tactic(auto, unfolding(crate::specs::Summary::of_term))]
+    fn compound<'s>(self, f: usize, s: &'s [u8]) -> Option<(Bounds, &'s [u8])>
+        requires { f + 1 < 2 ^ 64 }
+        ensures { parsed result ≡ mapped (of_term (bounds self.entry.table.now)) (and_then (read_terms (read_term self.entry.depth) s.now) (λ ts. return (app f ts))) }
+    {
         let (parts, s) = self.terms(s)?;
         let symbol = Bounds::symbol(f, self.declares(f, parts.count));
         Some((symbol.join(parts.bounds), s))

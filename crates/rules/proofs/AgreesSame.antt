@@ -2,7 +2,6 @@
 use Prim.Native.Nat.{ℕ, ◌+◌, ◌-◌}
 use mathlib.Core.Bool.{Bool, false, ◌&&◌, and-false}
 use mathlib.Core.List.{List}
-use mathlib.Core.Logic.{inl, inr}
 use mathlib.Core.Path.{◌≡◌, refl, ap, subst, ◌∙◌}
 use native.Mathlib.Omega.{arith}
 use borrow.Author.Tests.{ne_eqb}
@@ -15,15 +14,14 @@ use Rattle.text.proofs.Positions.{strip_tail}
 use Rattle.clauses.proofs.Places.{strip_at, result_at, within}
 use Rattle.clauses.proofs.Placing.{Stands}
 use Rattle.filling.specs.Filled.{Filler, same_item, matches, item_depth}
-use Rattle.filling.specs.Items.{Item, by_entries, filled_in}
+use Rattle.filling.specs.Items.{by_entries, filled_in}
 use Rattle.filling.proofs.Places.{plain, ends_of}
 use Rattle.filling.proofs.Agree.{stands_at, agree_at, parts_at, calls_at}
 use Rattle.filling.proofs.Covers.{head_at, bare_at, covers_at}
-use Rattle.agreement.specs.Agrees.{met, agrees_by, agrees, further, has_none, bare_calls, parts_agree, calls_agree, is_bare, is_covered, parts_fit, is_fitting}
+use Rattle.agreement.specs.Agrees.{met, agrees_by, agrees, onward, further, has_none, bare_calls, parts_agree, calls_agree, is_bare, is_covered, parts_fit, is_fitting}
 use Rattle.rules.proofs.Answered.{within_here, within_past}
 use Rattle.rules.proofs.RowPlaces.{bare_item, by_places, fits_at}
-use Rattle.rules.proofs.RowsMeet.{both_within, one_past}
-use Rattle.rules.proofs.Landing.{Lands, lands, lost, land, within_lands, lost_walk, then_walk, strip_walk, next_walk, result_walk}
+use Rattle.rules.proofs.Landing.{Lands, lands, lost, land, within_lands, lost_walk, then_walk, strip_walk, next_landed, result_walk}
 use Rattle.rules.proofs.ListsSame.{Lists, unlisted, listing, filler_same, filled_same}
 use Rattle.rules.proofs.ClaimsSame.{item}
 use Rattle.rules.proofs.FitsSame.{TestsAlike, fit_alike}
@@ -39,52 +37,44 @@ unfolding ends_of met
 met_at p q bad = within_past p (length p + 1) refl
 met_at p q (got left rest) = within_here p (length p - length rest) (omega arith)
 
--- A test further on in both clauses.
-further_same : (p q : List ℕ) {x y : ℕ} {a b : Parsed (Unit {0})} (X Y : Item) (here : Bool) (test : Item → Item → Bool) → Lands p x a → Lands q y b →
-    ((ps qs : List ℕ) → Stands p x ps → Stands q y qs → here ≡ test (item ps X.entries) (item qs Y.entries)) → ((within p x && within q y) && here) ≡ further test X Y a b
-unfolding further
-further_same p q {x} {y} X Y here test (lost e) m h = rw (one_past p q x y (inl e))
-further_same p q {x} {y} X Y here test (lands s) (lost e) h = rw (one_past p q x y (inr e))
-further_same p q {x} {y} X Y here test (lands {rest = ps} s) (lands {rest = qs} t) h = rw (both_within p q s.within t.within) (h ps qs s t)
-
 and_later : (a b : Bool) {c d : Bool} → a ≡ b → c ≡ d → (a && c) ≡ (b && d)
 and_later a b e f = rw (e, f)
 
 module _ (depth : ℕ) (p line starts q others : List ℕ) {es fs : Option (List (List ℕ))} (l : Lists line starts es) (m : Lists line others fs) where
-  stands_same : (p q : List ℕ) {line starts : List ℕ} {es : Option (List (List ℕ))} → Lists line starts es → {x y : ℕ} {bs cs : List ℕ} → Stands p x bs → Stands q y cs →
+  stands_same : (p q : List ℕ) {line starts : List ℕ} {es : Option (List (List ℕ))} → Lists line starts es → (x y : ℕ) {bs cs : List ℕ} → drop x p ≡ bs → drop y q ≡ cs →
       stands_at depth p x line starts q y ≡ met (matches (filled_in es (item_depth depth) bs) cs)
   unfolding stands_at
-  stands_same p q {line} {starts} {es} l {x} {y} {bs} {cs} s t =
+  stands_same p q {line} {starts} {es} l x y {bs} {cs} s t =
       met_pos p q _
-      ∙ (ap (λ f. met (matches f (drop y q))) (filled_same l (item_depth depth) (drop x p) ∙ ap (filled_in es (item_depth depth)) s.bytes_there)
-      ∙ ap (λ ts. met (matches (filled_in es (item_depth depth) bs) ts)) t.bytes_there)
+      ∙ (ap (λ f. met (matches f (drop y q))) (filled_same l (item_depth depth) (drop x p) ∙ ap (filled_in es (item_depth depth)) s)
+      ∙ ap (λ ts. met (matches (filled_in es (item_depth depth) bs) ts)) t)
 
-  pub agree_same : {x y : ℕ} {bs cs : List ℕ} → Stands p x bs → Stands q y cs → agree_at depth p x line starts q y others ≡ agrees depth (item bs es) (item cs fs)
+  -- At any places, whether anything stands there or not.
+  agree_there : (x y : ℕ) {bs cs : List ℕ} → drop x p ≡ bs → drop y q ≡ cs → agree_at depth p x line starts q y others ≡ agrees depth (item bs es) (item cs fs)
   unfolding agree_at agrees_by
-  agree_same {x} {y} {bs} {cs} s t = go l m
+  agree_there x y {bs} {cs} s t = go l m
     where
       go : {es fs : Option (List (List ℕ))} → Lists line starts es → Lists line others fs → agree_at depth p x line starts q y others ≡ agrees_by depth es fs (item bs es) (item cs fs)
-      go l (unlisted e) = rw e (stands_same p q l s t)
-      go (unlisted d) (listing h e) = rw (ne_eqb (length others) 0 (omega arith), d) (stands_same q p (listing h e) t s)
+      go l (unlisted e) = rw e (stands_same p q l x y s t)
+      go (unlisted d) (listing h e) = rw (ne_eqb (length others) 0 (omega arith), d) (stands_same q p (listing h e) y x t s)
       go (listing {es} k d) (listing {es = fs} h e) =
           rw (ne_eqb (length others) 0 (omega arith), ne_eqb (length starts) 0 (omega arith))
           (met_at p q _
           ∙ (ap (λ (f : Filler). met (same_item f (plain line others) (item_depth depth) (drop x p) (drop y q))) (filler_same (listing k d))
           ∙ (ap (λ (g : Filler). met (same_item (by_entries es) g (item_depth depth) (drop x p) (drop y q))) (filler_same (listing h e))
-          ∙ (ap (λ ps. met (same_item (by_entries es) (by_entries fs) (item_depth depth) ps (drop y q))) s.bytes_there
-          ∙ ap (λ qs. met (same_item (by_entries es) (by_entries fs) (item_depth depth) bs qs)) t.bytes_there))))
+          ∙ (ap (λ ps. met (same_item (by_entries es) (by_entries fs) (item_depth depth) ps (drop y q))) s
+          ∙ ap (λ qs. met (same_item (by_entries es) (by_entries fs) (item_depth depth) bs qs)) t))))
 
-  parts_same : {x y : ℕ} {bs cs : List ℕ} → Stands p x bs → Stands q y cs → parts_at depth p x line starts q y others ≡ parts_agree depth (item bs es) (item cs fs)
-  unfolding parts_at parts_agree
-  parts_same {x} {y} {bs} {cs} s t =
-      and_later _ _ (agree_same s t)
-      (further_same p q (item bs es) (item cs fs) _ (agrees depth) ((next_walk p).from (lands s)) ((next_walk q).from (lands t)) (λ ps qs u v. agree_same u v))
+  pub agree_same : {x y : ℕ} {bs cs : List ℕ} → Stands p x bs → Stands q y cs → agree_at depth p x line starts q y others ≡ agrees depth (item bs es) (item cs fs)
+  agree_same {x} {y} s t = agree_there x y s.bytes_there t.bytes_there
+
+  parts_same : (x y : ℕ) {bs cs : List ℕ} → drop x p ≡ bs → drop y q ≡ cs → parts_at depth p x line starts q y others ≡ parts_agree depth (item bs es) (item cs fs)
+  unfolding parts_at parts_agree onward
+  parts_same x y s t = and_later _ _ (agree_there x y s t) (agree_there _ _ (next_landed p x s) (next_landed q y t))
 
   pub calls_same : {x y : ℕ} {bs cs : List ℕ} → Stands p x bs → Stands q y cs → calls_at depth p x line starts q y others ≡ calls_agree depth (item bs es) (item cs fs)
-  unfolding calls_at calls_agree
-  calls_same {x} {y} {bs} {cs} s t =
-      and_later _ _ (agree_same s t)
-      (further_same p q (item bs es) (item cs fs) _ (parts_agree depth) ((next_walk p).from (lands s)) ((next_walk q).from (lands t)) (λ ps qs u v. parts_same u v))
+  unfolding calls_at calls_agree onward
+  calls_same {x} {y} s t = and_later _ _ (agree_same s t) (parts_same _ _ (next_landed p x s.bytes_there) (next_landed q y t.bytes_there))
 
   -- The one has none: from the object on, where there is such.
   bare_from : {x y : ℕ} (bs cs : List ℕ) {a b : Parsed (Unit {0})} → Lands p x a → Lands q y b →

@@ -25,7 +25,7 @@ use Rattle.filling.proofs.Claims.{filled_at, rewritten_at, linked_at, reflexive_
 use Rattle.filling.proofs.Walk.{fill_shrinks, shrinks_tail}
 use Rattle.expected.specs.Claims.{nothing_after, claim_ends, in_claim, item_expected, item_claimed, linked, reflexive, equated, rewritten, kept, others_from as others-from, others}
 use Rattle.rules.specs.Claim.{ends_after}
-use Rattle.rules.proofs.Landing.{Lands, lands, lost, land, assoc, skip_walk}
+use Rattle.rules.proofs.Landing.{Lands, lands, lost, land, landed, assoc, skip_walk}
 use Rattle.rules.proofs.ListsSame.{Lists, filler_same, filled_same}
 
 -- An item at a place of p, with what fills its clause.
@@ -92,6 +92,11 @@ gone_strip : (s : List ℕ) (b : ℕ) (w : List ℕ) (pos : ℕ) → length s �
 unfolding strip_at strip end_of
 gone_strip s b w pos h = subst (λ (bs : List ℕ). length s ≤ end_of s (strip (b ∷ w) bs)) (sym (drop_of_length-le s h)) (omega arith)
 
+-- What stands after a space, whether there is one or not.
+space_landed : (s : List ℕ) (pos : ℕ) {left : List ℕ} → drop pos s ≡ left → drop (strip_at s (bytes " ") pos) s ≡ after (skip " " left)
+unfolding strip_at
+space_landed s pos d = subst (λ (bs : List ℕ). drop (end_of s (skip " " (drop pos s))) s ≡ after (skip " " bs)) d (landed (land s pos (strip_tail (bytes " "))))
+
 module _ (rest : List ℕ) where
   -- A walk over the claim, and a reader of what is left of it.
   pub record Reads (walk : ℕ → ℕ) (read : Reader (Unit {0})) : Type 0 where
@@ -144,6 +149,18 @@ module _ (rest : List ℕ) where
         go {pos} (ahead e) = match_ahead f pos e
         go {pos} (gone h) = gone (match_gone f pos h)
 
+    -- After a space.
+    spaced_read : {f g : Parsed (List ℕ)} → f ≡ g →
+        Reads (λ pos. (ends_of p rest (matches f (drop (strip_at rest (bytes " ") pos) rest))).pos) (λ left. in_claim (matches g (after (skip " " left))))
+    unfolding strip_at
+    spaced_read {f} {g} e =
+        subst (λ (x : Parsed (List ℕ)). Reads (λ pos. (ends_of p rest (matches f (drop (strip_at rest (bytes " ") pos) rest))).pos) (λ left. in_claim (matches x (after (skip " " left))))) e (record { from = go })
+      where
+        go : {pos : ℕ} {q : Parsed (Unit {0})} → Ahead rest pos q →
+            Ahead rest (ends_of p rest (matches f (drop (strip_at rest (bytes " ") pos) rest))).pos (and_then q (λ _ left. in_claim (matches f (after (skip " " left)))))
+        go {pos} (ahead d) = match_ahead f _ (space_landed rest pos d)
+        go {pos} (gone h) = gone (match_gone f _ (gone_strip rest 32 [] pos h))
+
   module _ (depth : ℕ) where
     pub item_read : {p line starts bs : List ℕ} {at : ℕ} {es : Option (List (List ℕ))} → Holds p at line starts bs es → Reads (filled_at depth p at line starts rest) (item_claimed (item_expected depth) (item bs es))
     unfolding filled_at item_claimed item_expected
@@ -164,8 +181,7 @@ module _ (rest : List ℕ) where
           Reads (rewritten_at depth p at hole line starts q from others rest) (rewritten depth (item bs es) (length t) (item cs fs))
       unfolding rewritten_at rewritten
       rewritten_read hole {t} h e k =
-          then_read (strip_read 32 [])
-          (match_read p (ap (λ (f : Filler). fill_item f (hole_depth depth) (drop at p)) (hole_same p line starts q others hole from t cs e h.list k) ∙ ap (fill_item (with_hole (listed es) (length t) (item cs fs)) (hole_depth depth)) h.there))
+          spaced_read p (ap (λ (f : Filler). fill_item f (hole_depth depth) (drop at p)) (hole_same p line starts q others hole from t cs e h.list k) ∙ ap (fill_item (with_hole (listed es) (length t) (item cs fs)) (hole_depth depth)) h.there)
 
     pub reflexive_read : {line starts : List ℕ} {es : Option (List (List ℕ))} → Lists line starts es → Reads (reflexive_at depth line starts rest) (reflexive depth es)
     unfolding reflexive_at reflexive
@@ -214,23 +230,21 @@ module _ (rest : List ℕ) where
       on_match k n at pos same nothing = gone (stays_gone k (n + 1) _ _ (omega arith))
       on_match k n at pos same (gives {a = left} {rest = more} e) = same (n + 1) _ _ more left (end_drop p at more e.1) (end_drop rest pos left e.0)
 
-      on_claim : (k n at pos : ℕ) {cs : List ℕ} → FromSame k → drop at p ≡ cs → {q : Parsed (Unit {0})} → Lands rest pos q →
-          Compared k n (ends_of p rest (matches (filled_by line starts (item_depth depth) (drop at p)) (drop pos rest))) (and_then q (λ _. matches (filled_in es (item_depth depth) cs)))
-      on_claim k n at pos same d (lost z) = gone (stays_gone k (n + 1) _ _ (match_gone p _ pos (omega arith)))
-      on_claim k n at pos {cs} same d (lands {rest = left} s) =
+      on_claim : (k n at pos : ℕ) {cs left : List ℕ} → FromSame k → drop at p ≡ cs → drop pos rest ≡ left →
+          Compared k n (ends_of p rest (matches (filled_by line starts (item_depth depth) (drop at p)) (drop pos rest))) (matches (filled_in es (item_depth depth) cs) left)
+      on_claim k n at pos {cs} {left} same d e =
           let f : Parsed (List ℕ) = filled_in es (item_depth depth) (drop at p) in
           let m : Compared k n (ends_of p rest (matches f (drop pos rest))) (matches f (drop pos rest)) = on_match k n at pos same (matches_tails f (drop at p) (drop pos rest) ((filled_tail es (item_depth depth)).tail (drop at p))) in
           subst (λ (g : Parsed (List ℕ)). Compared k n (ends_of p rest (matches g (drop pos rest))) (matches (filled_in es (item_depth depth) cs) left)) (sym (filled_same l (item_depth depth) (drop at p)))
-          (subst (λ (bs : List ℕ). Compared k n (ends_of p rest (matches f (drop pos rest))) (matches (filled_in es (item_depth depth) cs) bs)) s.bytes_there
+          (subst (λ (bs : List ℕ). Compared k n (ends_of p rest (matches f (drop pos rest))) (matches (filled_in es (item_depth depth) cs) bs)) e
           (subst (λ (bs : List ℕ). Compared k n (ends_of p rest (matches f (drop pos rest))) (matches (filled_in es (item_depth depth) bs) (drop pos rest))) d m))
 
       -- One that is kept, and one that is dropped.
       on_kept : (k n at pos : ℕ) {left : List ℕ} → FromSame k → drop pos rest ≡ left → {q : Parsed (Unit {0})} → Lands p at q →
-          Compared k n (kept_at depth p at line starts rest pos) (and_then q (λ _ cs. and_then (skip " " left) (λ _. matches (filled_in es (item_depth depth) cs))))
+          Compared k n (kept_at depth p at line starts rest pos) (and_then q (λ _ cs. matches (filled_in es (item_depth depth) cs) (after (skip " " left))))
       unfolding kept_at once_at strip_at
       on_kept k n at pos same e (lost z) = gone (stays_gone k (n + 1) _ _ (no_literal at pos (omega arith)))
-      on_kept k n at pos same e (lands s) =
-          on_claim k n at _ same s.bytes_there (subst (λ (bs : List ℕ). Lands rest (end_of rest (skip " " (drop pos rest))) (skip " " bs)) e (land rest pos (strip_tail (bytes " "))))
+      on_kept k n at pos same e (lands s) = on_claim k n at _ same s.bytes_there (space_landed rest pos e)
 
       on_dropped : (k n at pos : ℕ) {left : List ℕ} → eqb (n + 1) dropped ≡ false → FromSame (suc k) → drop pos rest ≡ left → {q : Parsed (Unit {0})} → Lands p at q →
           Ahead rest (others_from depth p dropped line starts rest (suc k) (n + 1) at pos) (and_then q (λ _ cs. others-from depth dropped (suc k) (n + 1) (item cs es) left))
@@ -265,13 +279,9 @@ module _ (rest : List ℕ) where
       unfolding others_at others strip_at after
       others_read count = record { from = go }
         where
-          begins : {x : ℕ} {q : Parsed (Unit {0})} → Lands p x q → drop x p ≡ after q
-          begins (lands s) = s.bytes_there
-          begins {x} (lost z) = drop_of_length-le p (omega arith)
-
           go : {pos : ℕ} {q : Parsed (Unit {0})} → Ahead rest pos q →
               Ahead rest (others_from depth p dropped line starts rest count 0 (literals_at p) pos) (and_then q (λ _. others-from depth dropped count 0 (item (after (literals p)) es)))
-          go {pos} (ahead e) = from_same count 0 (literals_at p) pos _ _ (begins (land p 0 (strip_tail (bytes "(or")))) e
+          go {pos} (ahead e) = from_same count 0 (literals_at p) pos _ _ (landed (land p 0 (strip_tail (bytes "(or")))) e
           go {pos} (gone h) = gone (stays_gone count 0 (literals_at p) pos h)
 
   -- The end of the claim.

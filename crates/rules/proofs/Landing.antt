@@ -6,7 +6,7 @@ use mathlib.Core.List.{List, [], ◌∷◌}
 use mathlib.Core.Path.{◌≡◌, refl, sym, ap, subst, ◌∙◌}
 use native.Mathlib.Omega.{arith}
 use lib.Dec.{eqb, eqb→eq}
-use lib.ListN.{length, drop}
+use lib.ListN.{length, drop, drop_of_length-le}
 use Rattle.logic.specs.declared.Link.{Link}
 use Rattle.logic.specs.declared.Link.TheVariants.{Eq, Mem, Sub}
 use Rattle.text.specs.Words.{bytes}
@@ -15,6 +15,7 @@ use Rattle.text.proofs.Places.{end_of}
 use Rattle.text.specs.Access.{skip_item, pass_item, to_item, opening, to_argument, to_occurrence, stood}
 use Rattle.text.proofs.Gives.{Gives, nothing, gives}
 use Rattle.text.proofs.Positions.{End, end_drop, Tail, strip_tail, skip_tail, item_tail}
+use Rattle.clauses.specs.Entries.{after}
 use Rattle.clauses.specs.Shapes.{literal, next, positive, negative, first_or, atom, link, denied, object, scalar, signature, result_of, value_of, argument_of, same_sign, is_sv, same_arrow}
 use Rattle.clauses.specs.Parts.{molecule, arrow_head, arrow_object, object_of}
 use Rattle.clauses.proofs.Places.{strip_at, skip_at, next_at, argument_at, place_at, positive_at, negative_at, first_at, or_place, if_place, result_at, value_at, object_at, scalar_at, signature_at, denied_at, method_argument_at, link_at, occurrence_at, within, same_sign_at, atom_at, same_arrow_at}
@@ -42,6 +43,12 @@ land {read} p at t = go (t.tail (drop at p))
     go : {q : Parsed (Unit {0})} → Gives (λ _ rest. End (drop at p) rest) q → Lands p (end_of p q) q
     go nothing = lost refl
     go (gives {rest} e) = lands (record { within = omega arith; bytes_there = end_drop p at rest e })
+
+-- At the place stand the bytes after what was read; none, where nothing was.
+pub landed : {p : List ℕ} {x : ℕ} {q : Parsed (Unit {0})} → Lands p x q → drop x p ≡ after q
+unfolding after
+landed (lands s) = s.bytes_there
+landed {p} (lost e) = drop_of_length-le p (omega (arith, e))
 
 pub within_lands : (p : List ℕ) {x : ℕ} {q : Parsed (Unit {0})} → Lands p x q → within p x ≡ stood q
 unfolding stood
@@ -99,6 +106,11 @@ module _ (p : List ℕ) where
   pub next_walk : Walks p (next_at p) next
   unfolding next_at next
   next_walk = then_walk skip_walk (strip_walk 32 [])
+
+  -- From any place, whether anything stands there or not.
+  pub next_landed : (x : ℕ) {bs : List ℕ} → drop x p ≡ bs → drop (next_at p x) p ≡ after (next bs)
+  unfolding next_at skip_at next
+  next_landed x d = landed ((strip_walk 32 []).from (subst (λ (bs : List ℕ). Lands p (end_of p (skip_item (drop x p))) (skip_item bs)) d (land p x skip_tail)))
 
   pub positive_walk : Walks p (positive_at p) positive
   unfolding positive_at positive

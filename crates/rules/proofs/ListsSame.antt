@@ -11,10 +11,14 @@ use lib.ListN.{length, take, drop, get_or, get_or-eq_default, replicate, length-
 use lib.Seq.{drop-drop}
 use Rattle.std.proofs.Math.Path.{fun_ext}
 use Rattle.std.specs.Prelude.{Option, Some, None}
+use Rattle.logic.specs.Syntax.{Term, Terms}
+use Rattle.logic.specs.Terms.{count, entry_or}
 use Rattle.text.specs.Words.{bytes}
+use Rattle.text.specs.Write.{word, put_term, put_terms, put_let}
 use Rattle.text.specs.Read.{Parsed, bad, got, and_then, strip}
 use Rattle.text.proofs.Places.{end_of, places, entry_of}
 use Rattle.text.specs.Access.{skip_item, pass_item}
+use Rattle.text.proofs.Nesting.{let_entry}
 use Rattle.text.proofs.Gives.{Gives, nothing, gives, strip_gives}
 use Rattle.text.proofs.Positions.{End, end_drop, end_trans, end_append, strip_tail, skip_tail, places_past}
 use Rattle.clauses.specs.Entries.{after, itself, next_entry, one_more, items, entries}
@@ -119,6 +123,19 @@ list_same line at n = go (land line at (strip_tail (bytes "(let")))
     go {x} (lost e) =
         ap (λ y. entry_of line (places line 33 y) n) e
         ∙ (ap (λ ps. entry_of line ps n) (places_past line 33) ∙ (past_entry line 33 n ∙ sym (ap (λ es. get_or es n []) (no_items 32))))
+
+-- What is found in a written list: entry v is term v.
+pub written_entry : (ts : Terms) (rest : List ℕ) (v : ℕ) (d : Term) → v < count ts → v < 32 → get_or (entries (put_let ts rest)) v [] ≡ put_term (entry_or d ts v) []
+unfolding list_at strip_at strip put_let
+written_entry ts rest v d l h = go refl (land (put_let ts rest) 0 (strip_tail (bytes "(let")))
+  where
+    from : ℕ
+    from = strip_at (put_let ts rest) (bytes "(let") 0
+
+    go : {x : ℕ} → x ≡ from → Lands (put_let ts rest) x (got tt (put_terms ts (word ")" rest))) → get_or (entries (put_let ts rest)) v [] ≡ put_term (entry_or d ts v) []
+    go {x} e (lands s) =
+        sym (list_same (put_let ts rest) 0 v)
+        ∙ (ap (λ (at : ℕ). entry_of (put_let ts rest) (places (put_let ts rest) 33 at) v) (sym e) ∙ let_entry (put_let ts rest) ts v x rest d l h s.within s.bytes_there)
 
 pub lists_given : (line : List ℕ) (at width : ℕ) → Lists line (filling_places width (list_at line at)) (given width (entries (drop at line)))
 unfolding filling_places given list_at places

@@ -5,8 +5,7 @@ use mathlib.Core.Logic.{◌↔◌}
 use mathlib.Core.Path.{◌≡◌, refl, sym, ap, subst, ◌∙◌}
 use native.Mathlib.Omega.{arith}
 use lib.Dec.{T}
-use lib.ListN.{length, drop}
-use borrow.Author.Tests.{le-leb}
+use lib.ListN.{drop}
 use Rattle.logic.specs.declared.Link.{Link}
 use Rattle.logic.specs.declared.Arrow.{Arrow}
 use Rattle.logic.specs.declared.Rule.{Rule}
@@ -26,7 +25,7 @@ use Rattle.text.proofs.Tests.{T_and}
 use Rattle.text.proofs.Trees.{join_width}
 use Rattle.filling.specs.Filled.{matches, item_depth}
 use Rattle.filling.proofs.Places.{ends_of}
-use Rattle.clauses.proofs.Places.{strip_at, next_at, result_at, within}
+use Rattle.clauses.proofs.Places.{strip_at, next_at, result_at}
 use Rattle.filling.proofs.Claims.{filled_at, linked_at}
 use Rattle.filling.proofs.Filling.{tree_term_lem}
 use Rattle.filling.proofs.Grounds.{Entries, filled_by_lem}
@@ -37,7 +36,7 @@ use Rattle.filling.proofs.Agreed.{terms_agree, arguments_agree}
 use Rattle.rules.proofs.Answered.{judged_of}
 use Rattle.filling.proofs.NumberedFill.{fill_numbered, fills_numbered, term_deeper, terms_deeper}
 use Rattle.rules.proofs.Meets.{Images, Meets}
-use Rattle.filling.proofs.Agree.{agree_at, both_there, parts_at, calls_at}
+use Rattle.filling.proofs.Agree.{agree_at, parts_at, calls_at}
 use Rattle.rules.proofs.RowPlaces.{row_at}
 use Rattle.rules.proofs.ClaimPlaces.{new_at}
 
@@ -101,10 +100,6 @@ module _ (depth : ℕ) where
   unfolding formed_terms
   terms_numbered line starts σ w g ts f h = let (_, n) = simp T_and at f in fills_numbered σ w g.numbers ts n h
 
-  both_here : (p : List ℕ) (x : ℕ) (q : List ℕ) (y : ℕ) → next_at p x ≤ length p → next_at q y ≤ length q → T (both_there p x q y)
-  unfolding within
-  both_here p x q y a b = rw (le-leb (next_at p x) (length p) a, le-leb (next_at q y) (length q) b) tt
-
   module _ {line starts others : List ℕ} {σ τ : Substitution} {v w : ℕ} (g : Images line starts σ v) (h : Images line others τ w) {p q : List ℕ} where
     pub term_meets : {x y : ℕ} {t u : Term} → TermAt p x v t → TermAt q y w u → T (agree_at depth p x line starts q y others) ↔ (fill σ t ≡ fill τ u)
     term_meets {x} {y} {t} {u} a b =
@@ -123,10 +118,9 @@ module _ (depth : ℕ) where
     unfolding parts_at
     parts_meet {x} {y} a c =
         let first = term_meets a.method c.method in
-        let second = arguments_meet a.arguments c.arguments in
-        let (v, w) = simp T_and at both_here p x q y a.arguments.stands.within c.arguments.stands.within in (
-          λ h. let (j, (_, k)) = simp T_and at h in (first.0 j, second.0 k),
-          λ h. simp T_and (first.1 h.0, ((v, w), second.1 h.1)),
+        let second = arguments_meet a.arguments c.arguments in (
+          λ h. let (j, k) = simp T_and at h in (first.0 j, second.0 k),
+          λ h. simp T_and (first.1 h.0, second.1 h.1),
         )
 
     pub calls_meet : {x y : ℕ} {o m o' m' : Term} {ts ts' : Terms} → CallAt p x v o m ts → CallAt q y w o' m' ts' →
@@ -134,10 +128,9 @@ module _ (depth : ℕ) where
     unfolding calls_at
     calls_meet {x} {y} a c =
         let first = term_meets a.object c.object in
-        let more = parts_meet a.said c.said in
-        let (v, w) = simp T_and at both_here p x q y a.said.method.stands.within c.said.method.stands.within in (
-          λ h. let (j, (_, k)) = simp T_and at h in let l = more.0 k in (first.0 j, l.0, l.1),
-          λ h. simp T_and (first.1 h.0, ((v, w), more.1 (h.1, h.2))),
+        let more = parts_meet a.said c.said in (
+          λ h. let (j, k) = simp T_and at h in let l = more.0 k in (first.0 j, l.0, l.1),
+          λ h. simp T_and (first.1 h.0, more.1 (h.1, h.2)),
         )
 
 module _ (depth : ℕ) where

@@ -48,6 +48,7 @@ fn digits(s: &[u8], first: usize) -> Option<(usize, &[u8])>
 }
 
 // The number that s begins with, and the bytes after it.
+#[inline(always)]
 #[tactic(auto, unfolding(text::specs::Read::read_number, text::specs::Read::digit))]
 pub fn number(s: &[u8]) -> Option<(usize, &[u8])>
     ensures value { parsed result ≡ read_number s.now }

@@ -3,6 +3,9 @@ ghost use Rattle.std.specs.Prelude.{◌≡◌};
 ghost use Rattle.text.specs.Read.{strip};
 ghost use Rattle.text.specs.Answers.{passed};
 
+// The bytes of an opening bracket, a letter and a space, with which a term begins.
+pub const HEAD: usize = 3;
+
 // The bytes after the word w, if s begins with it. As all that is open, it says in its contract that what it is lent is the same after:
 // callers read that there (docs/DECISIONS.md).
 #[tactic(auto, using(crate::proofs::Strips::strips))]

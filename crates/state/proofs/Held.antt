@@ -16,9 +16,10 @@ use Rattle.logic.specs.Each.{width}
 use Rattle.logic.proofs.Both.{right}
 use Rattle.state.specs.declared.HeldState as code
 use Rattle.state.specs.declared.Added.{Added}
+use Rattle.state.specs.declared.Unpassed.{Unpassed}
 use Rattle.std.specs.Prelude.{Option, Some, None, Result, Ok, Err}
 use Rattle.logic.specs.declared.Check.{Check}
-use Rattle.logic.specs.StepChecks.{Checked, if_passed}
+use Rattle.logic.specs.StepChecks.{Checked}
 use Rattle.text.specs.Write.{put_clause}
 use Rattle.text.specs.Form.{Reading, form, no_form, formed_number, formed_terms, formed_clause, formed_step, formed_line}
 use Rattle.text.specs.Read.{read_line}
@@ -27,8 +28,8 @@ use Rattle.state.specs.State.{State, fresh, claim_of, clauses, advance, is_empty
 use Rattle.state.specs.Failure.{line_failure, read_failure}
 use Rattle.reader.specs.Summary.{of_clause, joined, bounds, clause_measure}
 use Rattle.reader.specs.LineAt.{from_clause, place_of, step_of, line_of}
-use Rattle.state.specs.ReadLine.{fresh_state, held_table, clause_failure, step_bounds, step_failure, failure_of, passing, seen_at, placed, byte_of, counted, clause_added, added_by, symbol_held, clause_held, with_added}
-use Rattle.state.specs.Represents.{Stands, Represents, Sized, Begins, SeenAs, Sees, LineStands, SizesAdded, Adds}
+use Rattle.state.specs.ReadLine.{fresh_state, held_table, clause_failure, step_bounds, step_failure, failure_of, passing, seen_by, seen_at, placed, byte_of, counted, clause_added, added_by, symbol_held, clause_held, with_added}
+use Rattle.state.specs.Represents.{Stands, Represents, Sized, Begins, SeenAs, checked_line, line_read, Sees, LineStands, SizesAdded, Adds}
 use Rattle.text.proofs.Plain.{clause_plain, in_front}
 use Rattle.text.proofs.Sound.{line_sound}
 use Rattle.reader.proofs.LineParts.{input_place, claim_place}
@@ -89,14 +90,18 @@ module _ {depth : ℕ} {part : ℕ → List ℕ} {held : code.HeldState} {st : S
         tell_clause (declared_told st.symbols) s.claim,
       ) refl
 
-  seen_as : (r : Reading) (l : LineAt) (w w' : Checked) → w ≡ w' → line_of st.symbols bytes r ≡ Some l → SeenAs st bytes r w' (if_passed w l)
-  unfolding SeenAs
-  seen_as r l (Ok u) w' e o = (sym e, o)
-  seen_as r l (Err c) w' e o = sym e
+  -- What is said of a line that was read, and that it is that line, whether it passes or not.
+  abbrev SeenRead : Reading → Checked → Result LineAt Unpassed → Type 0
+  SeenRead r w x = SeenAs st bytes r w (checked_line x) × (line_read x ≡ line_of st.symbols bytes r)
 
-  held_seen : (r : Reading) → SeenAs st bytes r (read_failure st r) (passing held (line_of st.symbols bytes r))
-  unfolding SeenAs read_failure passing line_of
-  held_seen no_form = refl
+  seen_as : (r : Reading) (l : LineAt) (w w' : Checked) → w ≡ w' → line_of st.symbols bytes r ≡ Some l → SeenRead r w' (seen_by w l)
+  unfolding SeenAs seen_by checked_line line_read
+  seen_as r l (Ok u) w' e o = ((sym e, o), sym o)
+  seen_as r l (Err c) w' e o = (sym e, sym o)
+
+  held_seen : (r : Reading) → SeenRead r (read_failure st r) (passing held (line_of st.symbols bytes r))
+  unfolding SeenAs read_failure passing line_of checked_line line_read
+  held_seen no_form = (refl, refl)
   held_seen (form (syntax.sym k)) = seen_as (form (syntax.sym k)) _ _ _ (sym_failure k) refl
   held_seen (form (input c)) = seen_as (form (input c)) _ _ _ (input_failure c) refl
   held_seen (form (by s)) = seen_as (form (by s)) _ _ _ (step_failure_lem s) refl
@@ -106,7 +111,7 @@ unfolding Sees seen_at
 line_seen depth held bytes part st R = rw R.table (held_seen R bytes (read_line depth bytes))
 
 -- What is seen of a line by the code is what the definitions say.
-pub line_sees : (depth : ℕ) (held : code.HeldState) (bytes : List ℕ) (r : Result LineAt Check) → r ≡ seen_at depth held bytes → Sees depth held bytes r
+pub line_sees : (depth : ℕ) (held : code.HeldState) (bytes : List ℕ) (r : Result LineAt Unpassed) → r ≡ seen_at depth held bytes → Sees depth held bytes r
 line_sees depth held bytes r e = rw e (line_seen depth held bytes)
 
 -- What holds of each number held and its clause holds with one more of both.

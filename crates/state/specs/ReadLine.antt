@@ -2,7 +2,7 @@
 -- Represents (`Sees`, `Adds`), in the definitions of State.
 use Rattle.std.specs.Prelude.{ℕ, ◌+◌, max, Bool, cond, ◌&&◌, List, leb, ltb, eqb, take, set, replicate, Option, Some, None, Result, Ok, Err}
 use Rattle.logic.specs.declared.Check.{Check}
-use Rattle.logic.specs.StepChecks.{Checked, if_passed}
+use Rattle.logic.specs.StepChecks.{Checked}
 use Rattle.reader.specs.declared.measures.Bounds.{Bounds}
 use Rattle.reader.specs.declared.forms.ItemAt.{ItemAt}
 use Rattle.reader.specs.declared.forms.StepAt.{StepAt}
@@ -10,6 +10,7 @@ use Rattle.reader.specs.declared.forms.LineAt.{LineAt}
 use Rattle.reader.specs.declared.forms.LineAt.TheVariants.{Sym, Input, By}
 use Rattle.state.specs.declared.HeldState.{HeldState}
 use Rattle.state.specs.declared.Added.{Added}
+use Rattle.state.specs.declared.Unpassed.{Unpassed}
 use Rattle.text.specs.Read.{read_line}
 use Rattle.text.specs.Figures.{office, max_symbols, max_parts, max_arguments, max_literals}
 use Rattle.reader.specs.Summary.{joined}
@@ -61,12 +62,16 @@ failure_of held (Input c) =
     (clause_failure (has_constant (held_table held)) c.measure.count c.measure.bounds) (Err Check.Order)
 failure_of held (By s) = step_failure (has_constant (held_table held)) s
 
--- Checks 2 to 6: a line that passes them, as it was read, or the first that fails.
-unfoldable pub passing : HeldState → Option LineAt → Result LineAt Check
-passing held None = Err Check.Form
-passing held (Some l) = if_passed (failure_of held l) l
+-- Checks 2 to 6: a line that passes them, as it was read, or the first that fails, and the line as it was read, if it is a form.
+unfoldable pub seen_by : Checked → LineAt → Result LineAt Unpassed
+seen_by (Ok u) l = Ok l
+seen_by (Err c) l = Err (record { check = c; line = Some l })
 
-unfoldable pub seen_at : ℕ → HeldState → List ℕ → Result LineAt Check
+unfoldable pub passing : HeldState → Option LineAt → Result LineAt Unpassed
+passing held None = Err (record { check = Check.Form; line = None })
+passing held (Some l) = seen_by (failure_of held l) l
+
+unfoldable pub seen_at : ℕ → HeldState → List ℕ → Result LineAt Unpassed
 seen_at depth held bytes = passing held (line_of (held_table held) bytes (read_line depth bytes))
 
 -- A place of the text, within the office's bytes; a number within 255; one in line more, where there is room.

@@ -1,7 +1,7 @@
 -- Nothing here is to be believed: these are promises of the reader, and `check` promises the verdict of the definitions.
 -- The state that the code holds, and the state of the definitions (State): what the one says of the other, over what is read, given as what
 -- stands from each place on.
-use Rattle.std.specs.Prelude.{ℕ, ◌+◌, ◌≤◌, ◌<◌, ◌≡◌, List, [], ◌++◌, T, length, get_or, drop, set, Some, Result, Ok, Err}
+use Rattle.std.specs.Prelude.{ℕ, ◌+◌, ◌≤◌, ◌<◌, ◌≡◌, List, [], ◌++◌, T, length, get_or, drop, set, Option, Some, Result, Ok, Err}
 use Rattle.logic.specs.declared.Check.{Check}
 use Rattle.logic.specs.StepChecks.{Checked}
 use Rattle.logic.specs.Syntax.{Clause}
@@ -10,6 +10,7 @@ use Rattle.reader.specs.declared.forms.LineAt.{LineAt}
 use Rattle.reader.specs.LineAt.{line_of}
 use Rattle.state.specs.declared.HeldState as code
 use Rattle.state.specs.declared.Added.{Added}
+use Rattle.state.specs.declared.Unpassed.{Unpassed}
 use Rattle.text.specs.Write.{put_clause}
 use Rattle.text.specs.Read.{read_line}
 use Rattle.text.specs.Figures.{office, max_symbols, few_parts_all}
@@ -45,9 +46,9 @@ pub record Sized (st : State) (literals widths : List ℕ) : Type 0 where
   pub widths_of : (n : ℕ) → n < length (clauses st) → get_or widths n 0 ≡ width (get_or (clauses st) n [])
 
 -- What `fresh`, `see` and `adds` say of the state of the definitions: the fresh state represents the fresh one; the line is the one that the
--- definitions read and passes, or the first check that fails is theirs; and where the line passes, its place is known and there is room for
--- a clause more, the state with what the line adds represents the state after the line, and the two lists with what it adds are of its
--- clauses.
+-- definitions read, whether it passes or not, and the first check that fails, if one does, is theirs; and where the line passes, its place
+-- is known and there is room for a clause more, the state with what the line adds represents the state after the line, and the two lists
+-- with what it adds are of its clauses.
 unfoldable pub Begins : code.HeldState → Type 0
 Begins r = (depth : ℕ) (part : ℕ → List ℕ) → Represents depth part r fresh
 
@@ -56,10 +57,20 @@ unfoldable pub SeenAs : State → List ℕ → Reading → Checked → Result Li
 SeenAs st bytes read asked (Ok l) = (asked ≡ Ok tt) × (line_of st.symbols bytes read ≡ Some l)
 SeenAs st bytes read asked (Err c) = asked ≡ Err c
 
-unfoldable pub Sees : ℕ → code.HeldState → List ℕ → Result LineAt Check → Type 0
+-- The line without what it fails, and the line as it was read, whether it passes or not.
+unfoldable pub checked_line : Result LineAt Unpassed → Result LineAt Check
+checked_line (Ok l) = Ok l
+checked_line (Err u) = Err u.check
+
+unfoldable pub line_read : Result LineAt Unpassed → Option LineAt
+line_read (Ok l) = Some l
+line_read (Err u) = u.line
+
+unfoldable pub Sees : ℕ → code.HeldState → List ℕ → Result LineAt Unpassed → Type 0
 Sees depth held bytes r =
     (part : ℕ → List ℕ) (st : State) → Represents depth part held st →
-    SeenAs st bytes (read_line depth bytes) (read_failure st (read_line depth bytes)) r
+    SeenAs st bytes (read_line depth bytes) (read_failure st (read_line depth bytes)) (checked_line r)
+    × (line_read r ≡ line_of st.symbols bytes (read_line depth bytes))
 
 -- The line's bytes stand at `start`, within the office's bytes, and the state has room.
 pub record LineStands (part : ℕ → List ℕ) (start : ℕ) (bytes : List ℕ) (held : code.HeldState) : Type 0 where

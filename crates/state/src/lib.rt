@@ -1,7 +1,7 @@
 // The reading state: the argument counts of the symbols and the places of the clauses. Checks 2 to 6 of a line.
 #![tactic(auto)]
 
-ghost use Rattle.std.specs.Prelude.{◌≡◌};
+ghost use Rattle.std.specs.Prelude.{◌≡◌, take};
 ghost use Rattle.state.specs.State.{has_constant};
 ghost use Rattle.state.specs.ReadLine.{fresh_state, held_table, clause_failure, step_failure, failure_of, seen_at};
 ghost use Rattle.state.specs.ReadLine.{placed, byte_of, counted as counted_in, clause_added, added_by, symbol_held, clause_held};
@@ -48,6 +48,29 @@ pub enum Added {
     },
 }
 
+// Of a line that fails: the first check of 2 to 6 that it fails, and the line as it was read; None where it is no form.
+#[derive(Clone, Copy, Debug, PartialEq, Eq)]
+pub struct Unpassed {
+    pub check: Check,
+    pub line: Option<LineAt>,
+}
+
+// The argument counts of the first symbols, so many: all, where more are said to be than there are counts, which no state says.
+fn first(counts: &[u8], symbols: usize) -> &[u8]
+    ensures { result.now ≡ take symbols counts.now }
+{
+    counts.get(..symbols).unwrap_or(counts)
+}
+
+// Whether some symbol of those held takes no terms, by the argument counts and the number of symbols.
+#[tactic(auto, using(crate::proofs::StateCode::any_constant))]
+pub fn constant_held(counts: &[u8], symbols: usize) -> bool
+    ensures value { result ≡ has_constant (take symbols counts.now) }
+    ensures counts_unchanged { counts.exit.now ≡ counts.entry.now }
+{
+    first(counts, symbols).contains(&0)
+}
+
 impl HeldState {
     // The state before the first line.
     #[tactic(auto, unfolding(crate::specs::ReadLine::fresh_state), using(crate::proofs::Held::fresh_begins))]
@@ -64,22 +87,22 @@ impl HeldState {
         }
     }
 
-    // The argument counts of the symbols that are declared: all, where more are said to be than there is room for, which no state says.
+    // The argument counts of the symbols that are declared.
     #[tactic(auto, unfolding(crate::specs::ReadLine::held_table))]
     pub fn declared(&self) -> &[u8]
         ensures value { result.now ≡ held_table self.now }
         ensures self_unchanged { self.exit.now ≡ self.entry.now }
     {
-        self.counts.get(..self.symbols).unwrap_or(&self.counts)
+        first(&self.counts, self.symbols)
     }
 
     // Whether some symbol takes no terms.
-    #[tactic(auto, using(crate::proofs::StateCode::any_constant))]
+    #[tactic(auto, unfolding(crate::specs::ReadLine::held_table))]
     pub fn has_constant(&self) -> bool
         ensures value { result ≡ has_constant (held_table self.now) }
         ensures self_unchanged { self.exit.now ≡ self.entry.now }
     {
-        self.declared().contains(&0)
+        constant_held(&self.counts, self.symbols)
     }
 
     // Checks 3 to 6 of a line.
@@ -101,18 +124,26 @@ impl HeldState {
         }
     }
 
-    // Checks 2 to 6 of the next line, without its line end: the line as it was read, or the first check that fails.
-    #[tactic(auto, unfolding(crate::specs::ReadLine::seen_at, crate::specs::ReadLine::passing), using(crate::proofs::Held::line_sees))]
-    pub fn see(&self, depth: u8, text: &[u8]) -> Result<LineAt, Check>
+    // Checks 2 to 6 of the next line, without its line end: the line as it was read, and, where it fails, the first check that it fails.
+    #[tactic(auto, unfolding(crate::specs::ReadLine::seen_at, crate::specs::ReadLine::passing, crate::specs::ReadLine::seen_by), using(crate::proofs::Held::line_sees))]
+    pub fn see(&self, depth: u8, text: &[u8]) -> Result<LineAt, Unpassed>
         ensures value { result ≡ seen_at depth self.now text.now }
         ensures sees { Sees depth self.now text.now result }
         ensures self_unchanged { (self.exit.now ≡ self.entry.now) × (text.exit.now ≡ text.entry.now) }
     {
         let Some(l) = line(text, self.declared(), depth) else {
-            return Err(Check::Form);
+            return Err(Unpassed {
+                check: Check::Form,
+                line: None,
+            });
         };
-        self.passes(&l)?;
-        Ok(l)
+        match self.passes(&l) {
+            Ok(()) => Ok(l),
+            Err(check) => Err(Unpassed {
+                check,
+                line: Some(l),
+            }),
+        }
     }
 
     // The state with one symbol more; as it was, where there is no room. It is made anew with one exit: by `mut self`, by a `match` or by

@@ -19,7 +19,8 @@ use Rattle.state.specs.declared.HeldState as code
 use Rattle.state.specs.State.{State, clauses, list_fits, ordered, constant_ready, within_limits, symbols_declared}
 use Rattle.state.specs.ReadLine.{seen_at}
 use Rattle.state.specs.Failure.{line_failure, read_failure}
-use Rattle.state.specs.Represents.{Represents, SeenAs, Sees}
+use Rattle.state.specs.declared.Unpassed.{Unpassed}
+use Rattle.state.specs.Represents.{Represents, SeenAs, checked_line, Sees}
 use Rattle.state.proofs.StateCode.{passed_both}
 use Rattle.rules.specs.Judging.{HoldsClause, Judges}
 use Rattle.meaning.specs.Answer.{step_failure, failure}
@@ -111,33 +112,33 @@ module _ {depth : ℕ} {part : ℕ → List ℕ} {state : code.HeldState} {st : 
 
 -- So the answer is the definitions', whatever represents a state.
 module _ (depth : ℕ) (part : ℕ → List ℕ) (state : code.HeldState) (held : List Held) (line : List ℕ) where
-  pub first_failed : (k : Check) {r : Result LineAt Check} → r ≡ Err k → Sees depth state line (Err k) → FirstFailing depth part state held line r
-  unfolding Sees SeenAs FirstFailing
-  first_failed k e S st R Z = rw e (line_failed st (read_line depth line) k (S part st R))
+  pub first_failed : (u : Unpassed) {r : Result LineAt Check} → r ≡ Err u.check → Sees depth state line (Err u) → FirstFailing depth part state held line r
+  unfolding Sees SeenAs FirstFailing checked_line
+  first_failed u e S st R Z = rw e (line_failed st (read_line depth line) u.check (S part st R).0)
 
   pub first_of_line : (l : LineAt) → Sees depth state line (Ok l) → ((s : StepAt) → l ≡ By s → ⊥) → FirstFailing depth part state held line (Ok l)
-  unfolding Sees SeenAs FirstFailing
+  unfolding Sees SeenAs FirstFailing checked_line
   first_of_line l S n st R Z =
-      let seen = S part st R in
+      let seen = (S part st R).0 in
       (passed_line held R Z line (read_line depth line) l refl seen.0 seen.1 (Ok tt) (λ s q. absurd (n s q)) (λ _. refl), seen.1)
 
   pub step_failed : (s : StepAt) (k : Check) {r : Result LineAt Check} → r ≡ Err k → Sees depth state line (Ok (By s)) →
       JudgedRight depth part state held line s (Err k) → FirstFailing depth part state held line r
-  unfolding Sees SeenAs FirstFailing
+  unfolding Sees SeenAs FirstFailing checked_line
   step_failed s k e S told st R Z =
-      let seen = S part st R in
+      let seen = (S part st R).0 in
       rw e (passed_line held R Z line (read_line depth line) (By s) refl seen.0 seen.1 (Err k) (λ t q. let e : s ≡ t = cc in rw (← e) told) (λ n. absurd (n s refl)))
 
   pub step_passed : (s : StepAt) → Sees depth state line (Ok (By s)) → JudgedRight depth part state held line s (Ok tt) →
       FirstFailing depth part state held line (Ok (By s))
-  unfolding Sees SeenAs FirstFailing
+  unfolding Sees SeenAs FirstFailing checked_line
   step_passed s S told st R Z =
-      let seen = S part st R in
+      let seen = (S part st R).0 in
       (passed_line held R Z line (read_line depth line) (By s) refl seen.0 seen.1 (Ok tt) (λ t q. let e : s ≡ t = cc in rw (← e) told) (λ _. refl), seen.1)
 
   -- Of a line that is no step no more is asked.
   pub not_judged : (l : LineAt) → Ok l ≡ seen_at depth state line → ((s : StepAt) → l ≡ By s → ⊥) → Ok l ≡ checked_at depth part state held line
-  unfolding checked_at then_judged line_judged
+  unfolding checked_at then_judged line_judged checked_line
   not_judged l e n = rw (← e) (go l n)
     where
       go : (l : LineAt) → ((s : StepAt) → l ≡ By s → ⊥) → Ok l ≡ then_judged depth part state held line (Ok l)

@@ -11,6 +11,7 @@ use Rattle.reader.specs.declared.forms.LineAt.TheVariants.{Sym, Input, By}
 use Rattle.state.specs.declared.HeldState.{HeldState}
 use Rattle.state.specs.State.{has_constant}
 use Rattle.state.specs.ReadLine.{held_table, seen_at}
+use Rattle.state.specs.Represents.{checked_line}
 use Rattle.rules.specs.Judging.{ParentAt, step_at}
 use Rattle.descent.specs.declared.Parents.{Parents}
 use Rattle.descent.specs.declared.Held.{Held}
@@ -40,7 +41,7 @@ then_judged depth part state held line (Err c) = Err c
 
 -- A line as it was read, if it passes checks 2 to 11, or the first that it fails.
 unfoldable pub checked_at : ℕ → (ℕ → List ℕ) → HeldState → List Held → List ℕ → Result LineAt Check
-checked_at depth part state held line = then_judged depth part state held line (seen_at depth state line)
+checked_at depth part state held line = then_judged depth part state held line (checked_line (seen_at depth state line))
 
 -- The parents that a line uses: of a step those that its rule uses, of another line none.
 unfoldable pub parents_at : LineAt → Parents

@@ -58,14 +58,17 @@ impl<'a> Before<'a> {
 
     // Checks 2 to 11 of the next line, without its line end: the line as it was read, or the first check that it fails. A step is judged by
     // the clauses before it.
-    #[tactic(auto, unfolding(crate::specs::Step::checked_at, crate::specs::Step::then_judged, crate::specs::Step::line_judged), using(crate::proofs::Judging::checking))]
+    #[tactic(auto, unfolding(crate::specs::Step::checked_at, crate::specs::Step::then_judged, crate::specs::Step::line_judged, state::specs::Represents::checked_line), using(crate::proofs::Judging::checking))]
     pub fn checked(self, depth: u8, line: &'a [u8]) -> Result<LineAt, Check>
         ensures value { result ≡ checked_at depth (part_of self.entry.texts) self.entry.state.now self.entry.held.now line.now }
         ensures first_failing { FirstFailing depth (part_of self.entry.texts) self.entry.state.now self.entry.held.now line.now result }
         ensures self_unchanged { (self.exit.texts.base.now ≡ self.entry.texts.base.now) × (self.exit.texts.job.now ≡ self.entry.texts.job.now)
             × (line.exit.now ≡ line.entry.now) }
     {
-        let read = self.state.see(depth, line)?;
+        let read = self
+            .state
+            .see(depth, line)
+            .map_err(|unpassed| unpassed.check)?;
         if let LineAt::By(step) = &read {
             self.judged(depth, line, step)?;
         }

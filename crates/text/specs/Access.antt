@@ -1,5 +1,6 @@
 -- Nothing in this file has to be believed: the parts of a clause in its bytes, what stands in brackets, one item after another.
--- `clause_item`, `argument_item` and `let_entry` (proofs/Nesting) say what is found in what the writer puts.
+-- `clause_item` and `argument_item` (proofs/Nesting) and `written_entry` (crates/rules/proofs/ListsSame) say what is found in what the writer
+-- puts.
 use Rattle.std.specs.Prelude.{ℕ, zero, suc, ◌+◌, ◌-◌, Bool, true, false, cond, ◌||◌, List, [], ◌∷◌, eqb}
 use Rattle.text.specs.Read.{Parsed, bad, got, Reader, ◌>>◌, skip}
 
